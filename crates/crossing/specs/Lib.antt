@@ -1,0 +1,6 @@
+pub mod Below
+pub mod Good
+pub mod Laws
+pub mod Refusals
+pub mod Site
+pub mod Tables

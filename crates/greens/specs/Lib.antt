@@ -1,0 +1,4 @@
+pub mod Circle
+pub mod Greens
+pub mod Plans
+pub mod Rounds
