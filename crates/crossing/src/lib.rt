@@ -1,9 +1,14 @@
 // A junction and the plans for it: what crosses, what has to be clear, whether a plan is good. Finding one is left to the layers above.
 mod asked;
+mod judging;
 mod junctions;
+mod keeping;
 mod reading;
 mod refusals;
 
+pub use judging::Verdict;
 pub use junctions::Junction;
 pub use junctions::Stream;
+pub use keeping::apart;
+pub use keeping::too_close;
 pub use refusals::Refusal;
