@@ -1,4 +1,5 @@
 pub mod Below
+pub mod Calm
 pub mod Clashes
 pub mod Faults
 pub mod Filled

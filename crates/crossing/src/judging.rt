@@ -38,6 +38,54 @@ impl Junction {
         let cycle = self.cycle().seconds();
         (green.from < cycle) & ((self.stream(stream).least <= green.long) & (green.long <= cycle))
     }
+
+    // What the stream that is worst off has to spare in a plan.
+    pub fn worst_spare(&self, plan: &Plan) -> u8
+        ensures { λ r. ⌜ r ≡ worst (site-of (now (self .entry))) (green-of (now (plan .entry) .greens)) ⌝ }
+    {
+        let mut least = self.cycle().seconds();
+        for k in 0..self.streams() {
+            let spare = plan.green(k).long.saturating_sub(self.stream(k).comes);
+            least = least.min(spare);
+        }
+        least
+    }
+
+    // Whether all can go: every green is at least as long as how many come.
+    pub fn all_go(&self, plan: &Plan) -> bool
+        ensures { λ r. ⌜ r ≡ enough (site-of (now (self .entry))) (green-of (now (plan .entry) .greens)) ⌝ }
+    {
+        for k in 0..self.streams() {
+            if plan.green(k).long < self.stream(k).comes {
+                return false;
+            }
+        }
+        true
+    }
+
+    // A plan judged: good, or the first thing that is wrong with it.
+    pub fn judge(&self, plan: &Plan) -> Verdict
+        ensures { λ r. ⌜ Judged (site-of (now (self .entry))) (green-of (now (plan .entry) .greens)) r ⌝ }
+    {
+        let stream = first_unfit(self, plan);
+        if stream < self.streams() {
+            return Verdict::Unfit { stream };
+        }
+        let second = close_second(self, plan);
+        if second < self.cycle().seconds() {
+            let first = close_first(self, plan, second);
+            let next = close_in_row(self.cycle(), self.row(first), plan, first, second);
+            return Verdict::TooClose {
+                second,
+                first,
+                next,
+            };
+        }
+        Verdict::Good {
+            spare: self.worst_spare(plan),
+            all_go: self.all_go(plan),
+        }
+    }
 }
 
 // The first stream whose green doesn't fit, or how many streams there are.
