@@ -3,6 +3,7 @@ mod asked;
 mod judging;
 mod junctions;
 mod keeping;
+mod laws;
 mod reading;
 mod refusals;
 
@@ -11,4 +12,8 @@ pub use junctions::Junction;
 pub use junctions::Stream;
 pub use keeping::apart;
 pub use keeping::too_close;
+pub use laws::cleared;
+pub use laws::never_together;
+pub use laws::no_growing;
+pub use laws::turned;
 pub use refusals::Refusal;
