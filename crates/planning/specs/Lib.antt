@@ -1,0 +1,3 @@
+pub mod Exists
+pub mod Lengths
+pub mod Worked

@@ -1,0 +1,6 @@
+// A best plan for a junction, or that there is none. Words are left to the layers above.
+mod laws;
+
+pub use laws::best_or_none;
+pub use laws::nine_to_spare;
+pub use laws::too_much;
