@@ -1,4 +1,5 @@
 // A junction and the plans for it: what crosses, what has to be clear, whether a plan is good. Finding one is left to the layers above.
+mod asked;
 mod junctions;
 mod refusals;
 
