@@ -10,10 +10,11 @@ use Rattle.greens.specs.declared.lights.Green.{Green}
 use Rattle.crossing.specs.Site.{Site, Greens}
 use Rattle.crossing.specs.Good.{good, enough, worst, Best, NoPlan}
 use Rattle.crossing.proofs.Good.{Fitting, GoodPlan, good-out}
+use Rattle.planning.specs.Alike.{Alike}
 use Rattle.planning.specs.Exists.{Best-or-none}
 use Rattle.planning.specs.Lengths.{long-for, plan-for, cut}
 use Rattle.planning.proofs.Choose.{joined, joined-below, some-or-none}
-use Rattle.planning.proofs.Same.{Same, same-good, same-enough, same-worst}
+use Rattle.planning.proofs.Same.{same-good, same-enough, same-worst}
 use Rattle.planning.proofs.Tight.{Tight, tight, worst-bound}
 
 -- whether a plan is good, lets all go and leaves w to spare
@@ -31,7 +32,7 @@ passes-in : (j : Site) (w : ℕ) (p : Greens) → Tight j w p → passes j w p �
 unfolding passes
 passes-in j w p t = and-from _ _ (t .is-good) (and-from _ _ (t .all-go) (le-leb _ _ (t .spares)))
 
-same-tight : (j : Site) (w : ℕ) (p q : Greens) → Same j p q → Tight j w p → Tight j w q
+same-tight : (j : Site) (w : ℕ) (p q : Greens) → Alike (j .streams) p q → Tight j w p → Tight j w q
 same-tight j w p q same t =
     record {
       is-good = same-good j p q same (t .is-good);
@@ -50,7 +51,7 @@ had j w =
     inr (λ q t.
     let begins : ℕ → ℕ = λ k. q k .from in
     let parts : GoodPlan j q = good-out j q (t .is-good) in
-    let same : Same j (cut j w q) (plan-for j w (joined (j .streams) begins nought))
+    let same : Alike (j .streams) (cut j w q) (plan-for j w (joined (j .streams) begins nought))
     = λ k h. let e = joined-below (j .streams) begins nought k h in rw e
     in
     none begins (λ k h. parts .fitting k h .begins)

@@ -7,13 +7,10 @@ use Rattle.greens.specs.declared.lights.Green.{Green}
 use Rattle.crossing.specs.Below.{all-to, least-to}
 use Rattle.crossing.specs.Site.{Site, Greens}
 use Rattle.crossing.specs.Good.{apart, good, enough, spare, worst}
+use Rattle.planning.specs.Alike.{Alike}
 use Rattle.crossing.proofs.Good.{Fitting, GoodPlan, good-out, good-in, enough-out, enough-in}
 
--- the same greens below the count of streams
-abbrev pub Same : Site → Greens → Greens → Type 0
-Same j p q = (k : ℕ) → k < j .streams → p k ≡ q k
-
-pub same-good : (j : Site) (p q : Greens) → Same j p q → good j p ≡ true → good j q ≡ true
+pub same-good : (j : Site) (p q : Greens) → Alike (j .streams) p q → good j p ≡ true → good j q ≡ true
 same-good j p q same e =
     let parts : GoodPlan j p = good-out j p e in
     good-in j q (record {
@@ -21,7 +18,7 @@ same-good j p q same e =
       keeps = λ a ha b hb crosses differ. rw (← same a ha, ← same b hb) (parts .keeps a ha b hb crosses differ);
     })
 
-pub same-enough : (j : Site) (p q : Greens) → Same j p q → enough j p ≡ true → enough j q ≡ true
+pub same-enough : (j : Site) (p q : Greens) → Alike (j .streams) p q → enough j p ≡ true → enough j q ≡ true
 same-enough j p q same e = enough-in j q (λ k h. rw (← same k h) (enough-out j p e k h))
 
 same-least : (n : ℕ) (f g : ℕ → ℕ) (bound : ℕ) → ((k : ℕ) → k < n → f k ≡ g k) → least-to n f bound ≡ least-to n g bound
@@ -29,7 +26,10 @@ unfolding least-to
 same-least zero f g bound same = refl
 same-least (suc n) f g bound same = omega (arith, same n (omega arith), same-least n f g bound (λ k h. same k (omega arith)))
 
-pub same-worst : (j : Site) (p q : Greens) → Same j p q → worst j p ≡ worst j q
+pub same-worst : (j : Site) (p q : Greens) → Alike (j .streams) p q → worst j p ≡ worst j q
 unfolding worst spare
 same-worst j p q same =
     same-least (j .streams) (λ k. p k .long - j .comes k) (λ k. q k .long - j .comes k) (j .cycle) (λ k h. ap (λ (g : Green). g .long - j .comes k) (same k h))
+
+pub alike-back : (j : Site) (p q : Greens) → Alike (j .streams) p q → Alike (j .streams) q p
+alike-back j p q alike = λ k h. sym (alike k h)
