@@ -1,7 +1,9 @@
 pub mod Choose
 pub mod Exist
+pub mod Leave
 pub mod Progress
 pub mod Same
 pub mod Tight
 pub mod Turns
 pub mod Work
+pub mod Worst

@@ -1,8 +1,8 @@
 -- One plan more tried: what was found stays, or gives way to the new plan.
-use mathlib.Core.Path.{_≡_, refl}
-use mathlib.Core.Bool.{Bool, true}
+use mathlib.Core.Path.{_≡_}
+use mathlib.Core.Bool.{true}
 use mathlib.Core.Logic.{_⊎_, ⊎-elim}
-use Prim.Native.Nat.{ℕ, _≤_, _<_}
+use Prim.Native.Nat.{_≤_}
 use native.Mathlib.Omega.{arith}
 use Rattle.std.specs.declared.option.Option.{Option}
 use Rattle.std.specs.declared.option.Option.the-variants.{Some, None}
@@ -24,7 +24,7 @@ stays j best p right bad =
     record {
       right = right;
       kept = λ q h. h;
-      new = λ q alike. no-better-bad j best q (λ g e. bad (same-good j q p (alike-back j p q alike) g) (same-enough j q p (alike-back j p q alike) e));
+      new = λ q alike. no-better-bad j best q (λ g e. bad (same-good j q p (alike-back (j .streams) p q alike) g) (same-enough j q p (alike-back (j .streams) p q alike) e));
     }
 
 -- nor does one that leaves no more to spare
@@ -55,10 +55,6 @@ takes-better j best old f is right more =
       kept = λ q before g e. let below : No-better j (Some old) q = rw is at before in omega (arith, below g e);
       new = λ q alike g e. omega (arith, right .spares, same-worst j (greens-of f) q alike);
     }
-
--- nothing was tried yet
-pub further-none : (j : Site) (best : Option Found) (tried : Greens → Type 0) → Right-so-far j best → ((q : Greens) → tried q → ⊥) → Further j best best tried
-further-none j best tried right none = record { right = right; kept = λ q h. h; new = λ q t. absurd (none q t) }
 
 -- one after the other
 pub further-then : (j : Site) (first next last : Option Found) (old new all : Greens → Type 0) →

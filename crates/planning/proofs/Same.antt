@@ -1,14 +1,18 @@
 -- Plans that give the streams of a junction the same greens are as good, and leave as much to spare.
 use mathlib.Core.Path.{_≡_, refl, ap, sym}
-use mathlib.Core.Bool.{Bool, true, false, _&&_}
-use Prim.Native.Nat.{ℕ, zero, suc, _+_, _-_, _≤_, _<_, min}
+use mathlib.Core.Bool.{true}
+use Prim.Native.Nat.{ℕ, zero, suc, _-_, _<_}
 use native.Mathlib.Omega.{arith}
 use Rattle.greens.specs.declared.lights.Green.{Green}
-use Rattle.crossing.specs.Below.{all-to, least-to}
+use Rattle.crossing.specs.Below.{least-to}
 use Rattle.crossing.specs.Site.{Site, Greens}
-use Rattle.crossing.specs.Good.{apart, good, enough, spare, worst}
+use Rattle.crossing.specs.Good.{good, enough, spare, worst}
+use Rattle.crossing.proofs.Good.{GoodPlan, good-out, good-in, enough-out, enough-in}
 use Rattle.planning.specs.Alike.{Alike}
-use Rattle.crossing.proofs.Good.{Fitting, GoodPlan, good-out, good-in, enough-out, enough-in}
+use Rattle.planning.specs.Lengths.{Leaves}
+
+pub alike-back : (n : ℕ) (p q : Greens) → Alike n p q → Alike n q p
+alike-back n p q alike = λ k h. sym (alike k h)
 
 pub same-good : (j : Site) (p q : Greens) → Alike (j .streams) p q → good j p ≡ true → good j q ≡ true
 same-good j p q same e =
@@ -31,5 +35,10 @@ unfolding worst spare
 same-worst j p q same =
     same-least (j .streams) (λ k. p k .long - j .comes k) (λ k. q k .long - j .comes k) (j .cycle) (λ k h. ap (λ (g : Green). g .long - j .comes k) (same k h))
 
-pub alike-back : (j : Site) (p q : Greens) → Alike (j .streams) p q → Alike (j .streams) q p
-alike-back j p q alike = λ k h. sym (alike k h)
+pub same-leaves : (j : Site) (w : ℕ) (p q : Greens) → Alike (j .streams) p q → Leaves j w p → Leaves j w q
+same-leaves j w p q same l =
+    record {
+      is-good = same-good j p q same (l .is-good);
+      all-go = same-enough j p q same (l .all-go);
+      spares = omega (arith, l .spares, same-worst j p q same);
+    }

@@ -1,40 +1,17 @@
--- Greens cut to what they have to be: a plan stays good, and leaves as much to spare.
+-- Greens cut to what they have to be: a plan stays good, and leaves as much to spare. So for w to spare only the beginnings are to be found.
 use mathlib.Core.Path.{_≡_, refl}
-use mathlib.Core.Bool.{Bool, true, false}
-use Prim.Native.Nat.{ℕ, _+_, _-_, _≤_, _<_, max}
+use mathlib.Core.Bool.{true, false}
+use Prim.Native.Nat.{ℕ, _+_, _≤_, _<_}
 use native.Mathlib.Omega.{arith}
 use Rattle.std.proofs.shelf.Ways.{tells}
 use Rattle.greens.specs.declared.lights.Green.{Green}
 use Rattle.greens.specs.Circle.{after}
 use Rattle.greens.specs.Greens.{on}
 use Rattle.crossing.specs.Site.{Site, Greens}
-use Rattle.crossing.specs.Good.{apart, good, enough, spare, worst}
-use Rattle.crossing.proofs.Below.{least-out, least-bound, least-in}
-use Rattle.crossing.proofs.Good.{Fitting, GoodPlan, good-out, good-in, enough-out, enough-in, apart-out, apart-in}
-use Rattle.planning.specs.Lengths.{long-for, cut}
-
--- what the worst-off stream has to spare: no more than the cycle, nor than any stream
-pub worst-bound : (j : Site) (p : Greens) → worst j p ≤ j .cycle
-unfolding worst
-worst-bound j p = least-bound (j .streams) (spare j p) (j .cycle)
-
-pub worst-out : (j : Site) (p : Greens) (w : ℕ) → w ≤ worst j p → (k : ℕ) → k < j .streams → w ≤ spare j p k
-unfolding worst
-worst-out j p w h k within = omega (arith, least-out (j .streams) (spare j p) (j .cycle) k within)
-
-pub worst-in : (j : Site) (p : Greens) (w : ℕ) → w ≤ j .cycle → ((k : ℕ) → k < j .streams → w ≤ spare j p k) → w ≤ worst j p
-unfolding worst
-worst-in j p w top each = least-in (j .streams) (spare j p) (j .cycle) w top each
-
--- where all can go, a green is as long as how many come and what it has to spare
-pub spare-long : (j : Site) (p : Greens) → enough j p ≡ true → (k : ℕ) → k < j .streams → spare j p k + j .comes k ≡ p k .long
-unfolding spare
-spare-long j p go k within = omega (arith, enough-out j p go k within)
-
--- a green with w to spare is as long as that asks for, and the other way round
-pub spare-in : (j : Site) (p : Greens) (w k : ℕ) → j .comes k + w ≤ p k .long → w ≤ spare j p k
-unfolding spare
-spare-in j p w k long = omega arith
+use Rattle.crossing.specs.Good.{apart}
+use Rattle.crossing.proofs.Good.{Fitting, GoodPlan, good-out, good-in, enough-in, apart-out, apart-in}
+use Rattle.planning.specs.Lengths.{Leaves, long-for, plan-for, cut}
+use Rattle.planning.proofs.Worst.{worst-bound, worst-out, worst-in, spare-long, spare-in}
 
 -- a shorter green is on in no other second
 on-shorter : (c : ℕ) (g h : Green) (s : ℕ) → h .from ≡ g .from → h .long ≤ g .long → on c g s ≡ false → on c h s ≡ false
@@ -49,28 +26,33 @@ apart-shorter c clear g h g2 h2 same-g same-h shorter-g shorter-h e =
     let sooner : after c (g .from) s < g2 .long + clear = rw same-g at soon in
     on-shorter c h h2 s same-h shorter-h (apart-out c clear g h e s within (omega arith) (omega arith)))
 
--- a plan cut to what it has to be for w to spare
-pub record Tight (j : Site) (w : ℕ) (p : Greens) : Type 0 where
-  pub is-good : good j p ≡ true
-  pub all-go : enough j p ≡ true
-  pub spares : w ≤ worst j p
-
-pub tight : (j : Site) (p : Greens) (w : ℕ) → good j p ≡ true → enough j p ≡ true → w ≤ worst j p → Tight j w (cut j w p)
-tight j p w is-good all-go spares =
-    let parts : GoodPlan j p = good-out j p is-good in
-    let shorter : (k : ℕ) → k < j .streams → long-for j w k ≤ p k .long
-    = λ k h. let fit : Fitting j k (p k) = parts .fitting k h in omega (arith, spare-long j p all-go k h, worst-out j p w spares k h, fit .least-long)
-    in
+-- beginnings in the cycle, with which all that crosses is apart, leave w to spare if the lengths for that are no longer than the cycle
+pub begins-in : (j : Site) (w : ℕ) (begins : ℕ → ℕ) → w ≤ j .cycle → ((k : ℕ) → k < j .streams → (begins k < j .cycle) × (long-for j w k ≤ j .cycle)) →
+    ((a : ℕ) → a < j .streams → (b : ℕ) → b < j .streams → j .crosses a b ≡ true → (a ≡ b → ⊥) →
+    apart (j .cycle) (j .clear a b) (plan-for j w begins a) (plan-for j w begins b) ≡ true) →
+    Leaves j w (plan-for j w begins)
+begins-in j w begins top within keeps =
     record {
-      is-good = good-in j (cut j w p) (record {
-        fitting = λ k h. let fit : Fitting j k (p k) = parts .fitting k h in record {
-          begins = fit .begins;
-          least-long = omega arith;
-          within = omega (arith, shorter k h, fit .within);
-        };
-        keeps = λ a ha b hb crosses differ. apart-shorter (j .cycle) (j .clear a b) (p a) (p b) (cut j w p a) (cut j w p b) refl refl (shorter a ha) (shorter b hb)
-            (parts .keeps a ha b hb crosses differ);
+      is-good = good-in j (plan-for j w begins) (record {
+        fitting = λ k h. record { begins = within k h .0; least-long = omega arith; within = within k h .1 };
+        keeps = keeps;
       });
-      all-go = enough-in j (cut j w p) (λ k h. omega arith);
-      spares = worst-in j (cut j w p) w (omega (arith, worst-bound j p)) (λ k h. spare-in j (cut j w p) w k (omega arith));
+      all-go = enough-in j (plan-for j w begins) (λ k h. omega arith);
+      spares = worst-in j (plan-for j w begins) w top (λ k h. spare-in j (plan-for j w begins) w k (omega arith));
     }
+
+-- a green of a plan that leaves w to spare is at least as long as that asks for
+pub leaves-long : (j : Site) (w : ℕ) (p : Greens) → Leaves j w p → (k : ℕ) → k < j .streams → long-for j w k ≤ p k .long
+leaves-long j w p l k h =
+    let fit : Fitting j k (p k) = good-out j p (l .is-good) .fitting k h in
+    omega (arith, spare-long j p (l .all-go) k h, worst-out j p w (l .spares) k h, fit .least-long)
+
+-- cut to that, it leaves as much
+pub tight : (j : Site) (w : ℕ) (p : Greens) → Leaves j w p → Leaves j w (cut j w p)
+tight j w p l =
+    let parts : GoodPlan j p = good-out j p (l .is-good) in
+    begins-in j w (λ k. p k .from) (omega (arith, worst-bound j p, l .spares))
+    (λ k h. let fit : Fitting j k (p k) = parts .fitting k h in (fit .begins, omega (arith, leaves-long j w p l k h, fit .within)))
+    (λ a ha b hb crosses differ.
+    apart-shorter (j .cycle) (j .clear a b) (p a) (p b) (cut j w p a) (cut j w p b) refl refl (leaves-long j w p l a ha) (leaves-long j w p l b hb)
+    (parts .keeps a ha b hb crosses differ))

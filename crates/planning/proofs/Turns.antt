@@ -1,23 +1,21 @@
 -- One stream's greens tried one after the other: each beginning, and with each beginning each length.
-use mathlib.Core.Path.{_≡_, refl, sym, _∙_}
-use mathlib.Core.Bool.{true}
+use mathlib.Core.Path.{_≡_, _∙_}
 use mathlib.Core.List.{List}
-use mathlib.Core.Logic.{_⊎_, inl, inr, _≢_, ⊎-elim}
+use mathlib.Core.Logic.{inl, inr, ⊎-elim}
 use Prim.Native.Nat.{ℕ, _+_, _≤_, _<_}
 use native.Mathlib.Omega.{arith}
 use lib.ListN.{length, set}
 use lib.Seq.{getD-set-same, getD-set-other}
 use Rattle.std.specs.declared.option.Option.{Option}
-use Rattle.std.proofs.shelf.Tests.{cases-eq, cases-lt}
+use Rattle.std.proofs.shelf.Tests.{cases-eq}
 use Rattle.greens.specs.declared.lights.Green.{Green}
 use Rattle.greens.specs.Plans.{noGreen, green-of}
 use Rattle.crossing.specs.Site.{Site, Greens}
-use Rattle.crossing.specs.Good.{good}
-use Rattle.crossing.proofs.Good.{Fitting, GoodPlan, good-out}
+use Rattle.crossing.proofs.Good.{Fitting, good-out}
 use Rattle.planning.specs.declared.tries.Found.{Found}
 use Rattle.planning.specs.Alike.{Alike}
-use Rattle.planning.specs.Tries.{Right-so-far, Further}
-use Rattle.planning.proofs.Progress.{further-none, further-then, further-good}
+use Rattle.planning.specs.Tries.{Further}
+use Rattle.planning.proofs.Progress.{further-then, further-good}
 
 -- the plans that go on from p, in which stream n begins before a second
 abbrev pub Begun : (p : Greens) (n from : ℕ) → Greens → Type 0
@@ -36,36 +34,28 @@ alike-more greens n g q room alike here k h =
     (cases-eq k n)
 
 module _ (j : Site) (greens : List Green) (n : ℕ) where
-  -- no beginning was tried yet, no length was tried yet
-  pub begun-none : (best : Option Found) → Right-so-far j best → Further j best best (Begun (green-of greens) n 0)
-  begun-none best right = further-none j best (Begun (green-of greens) n 0) right (λ q t. omega (arith, t .1))
-
-  pub shorter-none : (best : Option Found) (from : ℕ) → Right-so-far j best → Further j best best (Shorter (green-of greens) n from 0)
-  shorter-none best from right = further-none j best (Shorter (green-of greens) n from 0) right (λ q t. omega (arith, t .2))
-
   -- one length more
-  pub shorter-more : (first next last : Option Found) (from long : ℕ) → n < length greens →
-      Further j first next (Shorter (green-of greens) n from long) →
-      Further j next last (Alike (n + 1) (green-of (set greens n (record { from = from; long = long })))) →
+  pub shorter-more : (first next last : Option Found) (from long : ℕ) (more : List Green) → n < length greens → more ≡ set greens n (record { from = from; long = long }) →
+      Further j first next (Shorter (green-of greens) n from long) → Further j next last (Alike (n + 1) (green-of more)) →
       Further j first last (Shorter (green-of greens) n from (long + 1))
-  shorter-more first next last from long room one two =
-      further-then j first next last (Shorter (green-of greens) n from long) (Alike (n + 1) (green-of (set greens n (record { from = from; long = long }))))
-      (Shorter (green-of greens) n from (long + 1)) one two (λ q t.
+  shorter-more first next last from long more room is one two =
+      further-then j first next last (Shorter (green-of greens) n from long) (Alike (n + 1) (green-of more)) (Shorter (green-of greens) n from (long + 1)) one two
+      (λ q t.
       let begins : q n .from ≡ from = t .1 in
       ⊎-elim
-      (λ (same : q n .long ≡ long). inr (alike-more greens n (record { from = from; long = long }) q room (t .0) (rw (← begins, ← same))))
+      (λ (same : q n .long ≡ long).
+      inr (rw is (alike-more greens n (record { from = from; long = long }) q room (t .0) (rw (← begins, ← same)))))
       (λ (other : q n .long ≡ long → ⊥). inl (t .0, begins, omega (arith, t .2)))
       (cases-eq (q n .long) long))
 
-  -- one beginning more, with all its lengths up to the cycle
-  pub begun-more : (first next last : Option Found) (from : ℕ) → n < j .streams →
-      Further j first next (Begun (green-of greens) n from) →
-      Further j next last (Shorter (green-of greens) n from (j .cycle + 1)) →
+  -- one beginning more, with all lengths up to the cycle
+  pub begun-more : (first next last : Option Found) (from long : ℕ) → n < j .streams → j .cycle < long →
+      Further j first next (Begun (green-of greens) n from) → Further j next last (Shorter (green-of greens) n from long) →
       Further j first last (Begun (green-of greens) n (from + 1))
-  begun-more first next last from there one two =
+  begun-more first next last from long there all one two =
       further-then j first next last (Begun (green-of greens) n from) (λ q. Alike n (green-of greens) q × (q n .from ≡ from))
       (Begun (green-of greens) n (from + 1)) one
-      (further-good j next last (Shorter (green-of greens) n from (j .cycle + 1)) (λ q. Alike n (green-of greens) q × (q n .from ≡ from)) two (λ q g t.
+      (further-good j next last (Shorter (green-of greens) n from long) (λ q. Alike n (green-of greens) q × (q n .from ≡ from)) two (λ q g t.
       let fit : Fitting j n (q n) = good-out j q g .fitting n there in (t .0, t .1, omega (arith, fit .within))))
       (λ q t.
       ⊎-elim
@@ -74,7 +64,8 @@ module _ (j : Site) (greens : List Green) (n : ℕ) where
       (cases-eq (q n .from) from))
 
   -- all beginnings in the cycle, and so all plans that go on from the greens
-  pub begun-all : (first last : Option Found) → n < j .streams → Further j first last (Begun (green-of greens) n (j .cycle)) → Further j first last (Alike n (green-of greens))
-  begun-all first last there one =
-      further-good j first last (Begun (green-of greens) n (j .cycle)) (Alike n (green-of greens)) one (λ q g alike.
-      let fit : Fitting j n (q n) = good-out j q g .fitting n there in (alike, fit .begins))
+  pub begun-all : (first last : Option Found) (from : ℕ) → n < j .streams → j .cycle ≤ from →
+      Further j first last (Begun (green-of greens) n from) → Further j first last (Alike n (green-of greens))
+  begun-all first last from there all one =
+      further-good j first last (Begun (green-of greens) n from) (Alike n (green-of greens)) one (λ q g alike.
+      let fit : Fitting j n (q n) = good-out j q g .fitting n there in (alike, omega (arith, fit .begins)))

@@ -1,9 +1,8 @@
 -- The two junctions worked by hand.
 use mathlib.Core.Path.{_≡_, refl}
-use mathlib.Core.Bool.{Bool, true, false}
-use Prim.Native.Nat.{ℕ, zero, suc, _+_, _-_, _≤_, _<_, max}
+use mathlib.Core.Bool.{true}
+use Prim.Native.Nat.{ℕ, _+_, _≤_, _<_}
 use native.Mathlib.Omega.{arith}
-use lib.Dec.{eqb}
 use mathlib.Core.Logic.{⊎-elim}
 use Rattle.std.proofs.shelf.Tests.{cases-lt, both-ways, lt-ltb}
 use Rattle.greens.specs.declared.lights.Green.{Green}
@@ -11,11 +10,10 @@ use Rattle.greens.specs.Circle.{after}
 use Rattle.greens.specs.Greens.{on}
 use Rattle.greens.proofs.Circle.{after-cases}
 use Rattle.crossing.specs.Below.{all-to, least-to}
-use Rattle.crossing.specs.Site.{Site, Greens}
-use Rattle.crossing.specs.Good.{close, apart, fits, good, enough, spare, worst, Best, NoPlan}
+use Rattle.crossing.specs.Good.{close, apart, fits, good, enough, spare, worst}
 use Rattle.crossing.proofs.Good.{Fitting, GoodPlan, good-out, enough-out, apart-out}
-use Rattle.planning.specs.Worked.{too-much, Too-much, side-by-side, both-at-once, Nine-to-spare}
-use Rattle.planning.proofs.Tight.{worst-out, spare-long}
+use Rattle.planning.specs.Worked.{too-much, Too-much, side-by-side, Nine-to-spare}
+use Rattle.planning.proofs.Worst.{worst-out, spare-long}
 
 -- a green is on in its first second
 on-first : (c : ℕ) (g : Green) → g .from < c → 1 ≤ g .long → on c g (g .from) ≡ true

@@ -1,8 +1,17 @@
--- Greens that are no longer than they have to be. Assumes nothing: these are definitions.
-use Prim.Native.Nat.{ℕ, _+_, max}
+-- Plans that leave so much to spare, and greens that are no longer than that asks for. Assumes nothing: these are definitions.
+use mathlib.Core.Path.{_≡_}
+use mathlib.Core.Bool.{true}
+use Prim.Native.Nat.{ℕ, _+_, _≤_, max}
 use Rattle.crossing.specs.Site.{Site, Greens}
+use Rattle.crossing.specs.Good.{good, enough, worst}
 
--- how long a stream's green has to be for its least, and for w to spare
+-- a good plan in which all can go leaves every stream at least w to spare
+pub record Leaves (j : Site) (w : ℕ) (p : Greens) : Type 0 where
+  pub is-good : good j p ≡ true
+  pub all-go : enough j p ≡ true
+  pub spares : w ≤ worst j p
+
+-- how long a stream's green has to be, for its least and for w to spare
 abbrev pub long-for : Site → (w stream : ℕ) → ℕ
 long-for j w k = max (j .least k) (j .comes k + w)
 

@@ -7,3 +7,4 @@ pub use laws::nine_to_spare;
 pub use laws::too_much;
 pub use tries::Found;
 pub use tries::Tried;
+pub use tries::try_all;
