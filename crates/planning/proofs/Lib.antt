@@ -1,3 +1,4 @@
+pub mod Bad
 pub mod Choose
 pub mod Exist
 pub mod Leave
