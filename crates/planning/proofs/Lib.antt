@@ -1,6 +1,7 @@
 pub mod Bad
 pub mod Choose
 pub mod Exist
+pub mod First
 pub mod Leave
 pub mod Progress
 pub mod Same

@@ -47,12 +47,17 @@ leaves-long j w p l k h =
     let fit : Fitting j k (p k) = good-out j p (l .is-good) .fitting k h in
     omega (arith, spare-long j p (l .all-go) k h, worst-out j p w (l .spares) k h, fit .least-long)
 
+-- and so that is no longer than the cycle
+pub leaves-within : (j : Site) (w : ℕ) (p : Greens) → Leaves j w p → (k : ℕ) → k < j .streams → long-for j w k ≤ j .cycle
+leaves-within j w p l k h =
+    let fit : Fitting j k (p k) = good-out j p (l .is-good) .fitting k h in omega (arith, leaves-long j w p l k h, fit .within)
+
 -- cut to that, it leaves as much
 pub tight : (j : Site) (w : ℕ) (p : Greens) → Leaves j w p → Leaves j w (cut j w p)
 tight j w p l =
     let parts : GoodPlan j p = good-out j p (l .is-good) in
     begins-in j w (λ k. p k .from) (omega (arith, worst-bound j p, l .spares))
-    (λ k h. let fit : Fitting j k (p k) = parts .fitting k h in (fit .begins, omega (arith, leaves-long j w p l k h, fit .within)))
+    (λ k h. (parts .fitting k h .begins, leaves-within j w p l k h))
     (λ a ha b hb crosses differ.
     apart-shorter (j .cycle) (j .clear a b) (p a) (p b) (cut j w p a) (cut j w p b) refl refl (leaves-long j w p l a ha) (leaves-long j w p l b hb)
     (parts .keeps a ha b hb crosses differ))
