@@ -5,7 +5,7 @@ use Prim.Native.Nat.{ℕ, zero, suc, _+_, _≤_, _<_, min}
 use native.Mathlib.Omega.{arith}
 use native.Mathlib.Numerals.{add-one}
 use Rattle.std.specs.Orderings.{Decides}
-use Rattle.std.proofs.shelf.Tests.{cases-eq, cases-lt}
+use Rattle.std.proofs.shelf.Tests.{both-ways, cases-eq, cases-order}
 use Rattle.std.proofs.shelf.Ways.{decides-below-and, tells}
 use mathlib.Core.Logic.{⊎-elim}
 use Rattle.crossing.specs.Below.{all-to, first-to, least-to, sum-to}
@@ -77,3 +77,14 @@ first-here (suc n) test h =
     let old : first-to n test < n → test (first-to n test) ≡ true = first-here n test in
     let top = first-within n test in
     grind (arith, tells)
+
+-- the first number that passes is the one that does, with none below it that does
+pub first-is : (n : ℕ) (test : ℕ → Bool) (i : ℕ) → i < n → ((k : ℕ) → k < i → test k ≡ false) → test i ≡ true → i ≡ first-to n test
+first-is n test i within none here =
+    ⊎-elim
+    (λ (e : i ≡ first-to n test). e)
+    (⊎-elim
+    (λ (early : i < first-to n test). absurd (both-ways (test i) (first-below n test i early) here))
+    (λ (late : first-to n test < i).
+    absurd (both-ways (test (first-to n test)) (none (first-to n test) late) (first-here n test (omega arith)))))
+    (cases-order i (first-to n test))

@@ -27,12 +27,13 @@ site-in c n pairs table = record {
 abbrev pub first-above : (most : ℕ) → List ℕ → ℕ
 first-above most numbers = first-to (length numbers) (λ i. ltb most (getD numbers i 0))
 
--- a number of the table is at fault: above 121, not 0 for a stream and itself, or of two streams that cross one way only
+-- a number of the table is at fault, beside the one for the same two the other way: it is above 121, not 0 for a stream and itself, or they cross one way only
+abbrev pub at-fault : (itself : Bool) (number back : ℕ) → Bool
+at-fault itself number back =
+    ltb 121 number || ((itself && ltb 0 number) || ((ltb 0 number && eqb back 0) || (eqb number 0 && ltb 0 back)))
+
 abbrev pub fault : (n : ℕ) (table : List ℕ) (a b : ℕ) → Bool
-fault n table a b =
-    ltb 121 (entry n table a b)
-    || ((eqb a b && crossing n table a b)
-    || ((crossing n table a b && not (crossing n table b a)) || (crossing n table b a && not (crossing n table a b))))
+fault n table a b = at-fault (eqb a b) (entry n table a b) (entry n table b a)
 
 -- the first column of row a that is at fault, and the first row that has such a column; n where there is none
 abbrev pub faulty-column : (n : ℕ) (table : List ℕ) (a : ℕ) → ℕ

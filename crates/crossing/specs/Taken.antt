@@ -2,7 +2,7 @@
 use mathlib.Core.Path.{_≡_}
 use mathlib.Core.List.{List, []}
 use mathlib.Core.Bool.{cond, _&&_}
-use Prim.Native.Nat.{ℕ, zero, suc, _-_}
+use Prim.Native.Nat.{ℕ, zero, suc, _+_, _*_, _-_}
 use lib.Dec.{ltb}
 use lib.ListN.{getD}
 use Rattle.std.specs.declared.option.Option.{Option}
@@ -19,6 +19,10 @@ use Rattle.crossing.specs.Tables.{entry, crossing, row-of}
 -- past a junction's streams there is one that nobody uses
 abbrev pub noStream : Stream
 noStream = record { least = 0; comes = 0 }
+
+-- the stream that the numbers at 2k and 2k + 1 give
+abbrev pub stream-in : List ℕ → ℕ → Stream
+stream-in pairs k = record { least = getD pairs (2 * k) 0; comes = getD pairs (2 * k + 1) 0 }
 
 abbrev pub stream-of : Junction → ℕ → Stream
 stream-of j k = getD (j .streams) k noStream
