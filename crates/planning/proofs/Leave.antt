@@ -35,3 +35,7 @@ best-in j w p l none = (
 -- where not even nothing can be left to spare, there is no plan
 pub none-in : (j : Site) → ((q : Greens) → Leaves j 0 q → ⊥) → NoPlan j
 none-in j none q g e = none q (record { is-good = g; all-go = e; spares = omega arith })
+
+-- all best plans leave the same to spare, however they were found
+pub best-same : (j : Site) (p q : Greens) → Best j p → Best j q → worst j p ≡ worst j q
+best-same j p q one other = omega (arith, one .most q (other .is-good) (other .all-go), other .most p (one .is-good) (one .all-go))
