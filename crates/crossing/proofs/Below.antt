@@ -5,7 +5,7 @@ use Prim.Native.Nat.{ℕ, zero, suc, _+_, _≤_, _<_, min}
 use native.Mathlib.Omega.{arith}
 use native.Mathlib.Numerals.{add-one}
 use Rattle.std.specs.Orderings.{Decides}
-use Rattle.std.proofs.shelf.Tests.{both-ways, cases-eq, cases-order}
+use Rattle.std.proofs.shelf.Tests.{both-ways, cases-bool, cases-eq, cases-order}
 use Rattle.std.proofs.shelf.Ways.{decides-below-and, tells}
 use mathlib.Core.Logic.{⊎-elim}
 use Rattle.crossing.specs.Below.{all-to, first-to, least-to, sum-to}
@@ -88,3 +88,14 @@ first-is n test i within none here =
     (λ (late : first-to n test < i).
     absurd (both-ways (test (first-to n test)) (none (first-to n test) late) (first-here n test (omega arith)))))
     (cases-order i (first-to n test))
+
+pub all-fails : (n : ℕ) (test : ℕ → Bool) (k : ℕ) → k < n → test k ≡ false → all-to n test ≡ false
+all-fails n test k within fails =
+    ⊎-elim (λ (all : all-to n test ≡ true). absurd (both-ways (test k) fails (all-out n test all k within))) (λ (e : all-to n test ≡ false). e) (cases-bool (all-to n test))
+
+-- two tests that agree below n have the same first number
+pub first-same : (n : ℕ) (test other : ℕ → Bool) → ((k : ℕ) → k < n → test k ≡ other k) → first-to n test ≡ first-to n other
+unfolding first-to
+first-same zero test other agree = refl
+first-same (suc n) test other agree =
+    let before = first-same n test other (λ k h. agree k (omega arith)) in let here = agree n (omega arith) in rw (before, here)

@@ -1,7 +1,11 @@
 pub mod Below
+pub mod Calm
+pub mod Clashes
 pub mod Faults
 pub mod Filled
 pub mod Good
+pub mod Queue
 pub mod Refused
 pub mod Rows
+pub mod Safe
 pub mod SameSite

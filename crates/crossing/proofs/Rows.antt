@@ -31,11 +31,14 @@ pub row-entry : (n : ℕ) (table : List ℕ) (a b : ℕ) → b < n → getD (row
 row-entry n table a b h = rw (getD-take, getD-drop)
 
 module _ (j : Junction) (a b : ℕ) (row : List ℕ) (is : row ≡ row-in j a) where
-  there : a < j .count → length row ≡ j .count
-  there h =
+  pub row-there : a < j .count → length row ≡ j .count
+  row-there h =
       let whole = table-most (j .count) (j .few .1) in
       let here = lt-ltb a (j .count) h in
       simp (is, here) (row-length (j .count) (j .table) a h (omega arith))
+
+  pub row-holds : a < j .count → b < j .count → getD row b 0 ≡ entry (j .count) (j .table) a b
+  row-holds h inside = let here = lt-ltb a (j .count) h in simp (is, here) (row-entry (j .count) (j .table) a b inside)
 
   gone : j .count ≤ a → length row ≡ 0
   gone h = let past = le-ltb a (j .count) h in simp (is, past)
@@ -46,7 +49,7 @@ module _ (j : Junction) (a b : ℕ) (row : List ℕ) (is : row ≡ row-in j a) w
       ⊎-elim
       (λ (h : a < j .count).
       let here = lt-ltb a (j .count) h in
-      let inside : b < j .count = omega (arith, there h) in
+      let inside : b < j .count = omega (arith, row-there h) in
       let beside = lt-ltb b (j .count) inside in
       simp (is, here, beside) (rw (row-entry (j .count) (j .table) a b inside)))
       (λ (h : j .count ≤ a). absurd (omega (arith, gone h)))
@@ -55,6 +58,6 @@ module _ (j : Junction) (a b : ℕ) (row : List ℕ) (is : row ≡ row-in j a) w
   pub row-past : length row ≤ b → None ≡ clearing-of j a b
   row-past past =
       ⊎-elim
-      (λ (h : a < j .count). let beside = le-ltb b (j .count) (omega (arith, there h)) in let here = lt-ltb a (j .count) h in simp (here, beside))
+      (λ (h : a < j .count). let beside = le-ltb b (j .count) (omega (arith, row-there h)) in let here = lt-ltb a (j .count) h in simp (here, beside))
       (λ (h : j .count ≤ a). let here = le-ltb a (j .count) h in simp here)
       (cases-lt a (j .count))

@@ -6,3 +6,4 @@ pub mod Refusals
 pub mod Site
 pub mod Tables
 pub mod Taken
+pub mod Verdicts
