@@ -5,12 +5,12 @@ use native.Mathlib.Nat.{mod-self}
 use native.Mathlib.Omega.{arith}
 use Rattle.greens.specs.Rounds.{later}
 use Rattle.crossing.specs.Site.{Site, Greens}
-use Rattle.crossing.specs.Laws.{Turned}
 use Rattle.crossing.proofs.Good.{Fitting, good-out, enough-out, enough-in}
+use Rattle.crossing.proofs.Safe.{turned}
 use Rattle.planning.specs.Lengths.{Leaves}
 
-pub first-at-nought : Turned → (j : Site) (w : ℕ) (p : Greens) (a : ℕ) → a < j .streams → Leaves j w p → (q : Greens) × Leaves j w q × (q a .from ≡ 0)
-first-at-nought turned j w p a there l =
+pub first-at-nought : (j : Site) (w : ℕ) (p : Greens) (a : ℕ) → a < j .streams → Leaves j w p → (q : Greens) × Leaves j w q × (q a .from ≡ 0)
+first-at-nought j w p a there l =
     let fit : Fitting j a (p a) = good-out j p (l .is-good) .fitting a there in
     let n : ℕ = j .cycle - p a .from in
     let q : Greens = λ k. later (j .cycle) n (p k) in

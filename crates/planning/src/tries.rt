@@ -5,6 +5,7 @@ ghost use Rattle.crossing.specs.Taken.{site-of};
 ghost use Rattle.planning.specs.Alike.{Alike};
 ghost use Rattle.planning.specs.Tries.{Spared, Right-so-far, Further, Answers};
 use crossing::Junction;
+use crossing::Verdict;
 use greens::Green;
 use greens::Plan;
 
@@ -29,7 +30,11 @@ pub enum Tried {
 fn spared(junction: &Junction, plan: &Plan) -> Option<u8>
     ensures { λ r. ⌜ Spared (site-of (now (junction .entry))) (green-of (now (plan .entry) .greens)) r ⌝ }
 {
-    None
+    match junction.judge(plan) {
+        Verdict::Good { spare, all_go } => { if all_go { Some(spare) } else { None } }
+        Verdict::Unfit { .. } => None,
+        Verdict::TooClose { .. } => None,
+    }
 }
 
 // The better of what was found so far and of one plan more.
