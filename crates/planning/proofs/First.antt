@@ -1,6 +1,6 @@
 -- Any one stream may be taken to begin with the cycle: the whole plan is turned.
 use mathlib.Core.Path.{_≡_, _∙_, ap}
-use Prim.Native.Nat.{ℕ, _+_, _-_, _%_, _≤_, _<_}
+use Prim.Native.Nat.{ℕ, _+_, _-_, _%_, _<_}
 use native.Mathlib.Nat.{mod-self}
 use native.Mathlib.Omega.{arith}
 use Rattle.greens.specs.Rounds.{later}

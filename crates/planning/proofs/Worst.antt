@@ -1,7 +1,7 @@
 -- What the worst-off stream has to spare, taken apart and put together.
 use mathlib.Core.Path.{_≡_}
 use mathlib.Core.Bool.{true}
-use Prim.Native.Nat.{ℕ, _+_, _-_, _≤_, _<_}
+use Prim.Native.Nat.{ℕ, _+_, _≤_, _<_}
 use native.Mathlib.Omega.{arith}
 use Rattle.crossing.specs.Site.{Site, Greens}
 use Rattle.crossing.specs.Good.{enough, spare, worst}

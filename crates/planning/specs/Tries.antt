@@ -44,7 +44,7 @@ pub record Further (j : Site) (before now : Option Found) (tried : Greens → Ty
   pub new : (q : Greens) → tried q → No-better j now q
 
 -- what trying all answers: a best plan and what its worst-off stream has to spare, or that no plan lets all go; more than three streams are not tried
-abbrev pub Answers : Junction → Tried → Type 0
-Answers j (Tried.Best f) = (j .count ≤ 3) × Best (site-of j) (greens-of f) × (f .spare ≡ worst (site-of j) (greens-of f))
-Answers j Tried.None = (j .count ≤ 3) × NoPlan (site-of j)
-Answers j Tried.TooMany = 3 < j .count
+abbrev pub AllTried : Junction → Tried → Type 0
+AllTried j (Tried.Best f) = (j .count ≤ 3) × Best (site-of j) (greens-of f) × (f .spare ≡ worst (site-of j) (greens-of f))
+AllTried j Tried.None = (j .count ≤ 3) × NoPlan (site-of j)
+AllTried j Tried.TooMany = 3 < j .count

@@ -3,7 +3,7 @@ ghost use Prim.Native.Nat.{_≤_};
 ghost use Rattle.greens.specs.Plans.{green-of};
 ghost use Rattle.crossing.specs.Taken.{site-of};
 ghost use Rattle.planning.specs.Alike.{Alike};
-ghost use Rattle.planning.specs.Tries.{Spared, Right-so-far, Further, Answers};
+ghost use Rattle.planning.specs.Tries.{Spared, Right-so-far, Further, AllTried};
 use crossing::Junction;
 use crossing::Verdict;
 use greens::Green;
@@ -79,7 +79,7 @@ fn try_from(junction: &Junction, plan: Plan, stream: usize, best: Option<Found>)
 
 // A best plan by trying all there are. For small junctions: with three streams there are as many plans as the cycle has seconds, to the sixth power.
 pub fn try_all(junction: &Junction) -> Tried
-    ensures { λ r. ⌜ Answers (now (junction .entry)) r ⌝ }
+    ensures { λ r. ⌜ AllTried (now (junction .entry)) r ⌝ }
 {
     if junction.streams() > 3 {
         return Tried::TooMany;
