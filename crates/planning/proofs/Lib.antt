@@ -1,0 +1,11 @@
+pub mod Bad
+pub mod Choose
+pub mod Exist
+pub mod First
+pub mod Leave
+pub mod Progress
+pub mod Same
+pub mod Tight
+pub mod Turns
+pub mod Work
+pub mod Worst

@@ -1,0 +1,5 @@
+pub mod Alike
+pub mod Exists
+pub mod Lengths
+pub mod Tries
+pub mod Worked
