@@ -1,0 +1,4 @@
+// Starts for greens of given lengths: which keep all that crosses apart, or that there are none. Which lengths is left to the layers above.
+mod settings;
+
+pub use settings::Setting;
