@@ -42,11 +42,11 @@ tied-both : (t : Task) (a b : ℕ) → tied t a b ≡ tied t b a
 unfolding tied
 tied-both t a b = grind (arith, tells)
 
-gap-tied : (t : Task) (a b : ℕ) → tied t a b ≡ true → gap-of t a b ≡ t .long a + cond (t .crosses a b) (t .clear a b) 0
+pub gap-tied : (t : Task) (a b : ℕ) → tied t a b ≡ true → gap-of t a b ≡ t .long a + cond (t .crosses a b) (t .clear a b) 0
 unfolding gap-of
 gap-tied t a b e = rw e
 
-gap-free : (t : Task) (a b : ℕ) → tied t a b ≡ false → gap-of t a b ≡ 0
+pub gap-free : (t : Task) (a b : ℕ) → tied t a b ≡ false → gap-of t a b ≡ 0
 unfolding gap-of
 gap-free t a b e = rw e
 

@@ -1,3 +1,4 @@
+pub mod Gaps
 pub mod Orders
 pub mod Settings
 pub mod Starts

@@ -1,4 +1,6 @@
 // Starts for greens of given lengths: which keep all that crosses apart, or that there are none. Which lengths is left to the layers above.
+mod measuring;
 mod settings;
+mod spacing;
 
 pub use settings::Setting;
