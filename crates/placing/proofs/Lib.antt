@@ -1,2 +1,4 @@
 pub mod Bridge
 pub mod Gaps
+pub mod Rooms
+pub mod Steps

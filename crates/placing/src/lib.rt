@@ -1,5 +1,8 @@
 // Starts for greens of given lengths: which keep all that crosses apart, or that there are none. Which lengths is left to the layers above.
 mod measuring;
+mod moving;
+mod narrowing;
+mod room;
 mod settings;
 mod spacing;
 
