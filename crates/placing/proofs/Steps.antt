@@ -4,28 +4,22 @@ use mathlib.Core.Bool.{Bool, true, false, _||_}
 use mathlib.Core.Logic.{_⊎_, inl, inr, ⊎-elim}
 use Prim.Native.Nat.{ℕ, _+_, _-_, _≤_, _<_}
 use native.Mathlib.Omega.{arith}
-use Rattle.std.proofs.shelf.Tests.{cases-bool, or-parts, or-cases, both-ways}
+use Rattle.std.proofs.shelf.Tests.{cases-bool, or-parts, or-cases}
 use Rattle.placing.specs.declared.room.Bounds.{Bounds}
 use Rattle.placing.specs.declared.spacing.Gaps.{Gaps}
 use Rattle.placing.specs.Gaps.{gap-at, InOrder}
 use Rattle.placing.specs.Bounds.{Obeys, Narrower, Raised, Lowered, low-of, high-of, before-of, room-of}
-use Rattle.placing.specs.Steps.{Far, Settled, Step, Met}
+use Rattle.placing.specs.Steps.{Far, Settled, Step, Met, Round, Narrowed}
 use Rattle.placing.proofs.Rooms.{raised-room, raised-keeps, raised-back, lowered-room, lowered-keeps, lowered-back}
 
-pub narrower-same : (q : Gaps) (s : Bounds) → Narrower q s s
-narrower-same q s = record { keeps = λ start i o. o; back = λ start o. o }
-
-pub narrower-more : (q : Gaps) (s m t : Bounds) → Narrower q s m → Narrower q m t → Narrower q s t
+narrower-more : (q : Gaps) (s m t : Bounds) → Narrower q s m → Narrower q m t → Narrower q s t
 narrower-more q s m t x y = record {
   keeps = λ start i o. y .keeps start i (x .keeps start i o);
   back = λ start o. x .back start (y .back start o);
 }
 
-pub step-same : (q : Gaps) (s : Bounds) → Step q s s false
-step-same q s = record { narrower = narrower-same q s; still = λ e. refl; less = λ (e : false ≡ true). absurd (both-ways false refl e) }
-
 -- two steps are a step, which moves something if one of them does
-pub step-more : (q : Gaps) (s m t : Bounds) (x y : Bool) → Step q s m x → Step q m t y → Step q s t (x || y)
+step-more : (q : Gaps) (s m t : Bounds) (x y : Bool) → Step q s m x → Step q m t y → Step q s t (x || y)
 step-more q s m t x y one two =
     let room-first : room-of m ≤ room-of s =
     ⊎-elim
@@ -94,4 +88,14 @@ met-from q s m t a b far up down x y ha hb f within upward downward r l =
             round = omega (arith, f .gap);
             order = λ h. omega (arith, f .first h);
           });
+    }
+
+-- where a round moves nothing, the narrowing is done
+pub narrowed-from : (q : Gaps) (s m t : Bounds) (moved : Bool) → Narrower q s m → room-of m ≤ room-of s → Round q m t (q .count) moved → moved ≡ false → Narrowed q s t
+narrowed-from q s m t moved n room round e =
+    let same : t ≡ m = round .step .still e in
+    record {
+      narrower = narrower-more q s m t n (round .step .narrower);
+      less = rw same room;
+      settled = round .settled e;
     }

@@ -29,3 +29,19 @@ pub record Step (q : Gaps) (s t : Bounds) (moved : Bool) : Type 0 where
 pub record Met (q : Gaps) (s t : Bounds) (a b : ℕ) (moved : Bool) : Type 0 where
   pub step : Step q s t moved
   pub settled : moved ≡ false → Settled q t a b
+
+-- steps for a and all of the first n, which are settled if nothing moved
+pub record Row (q : Gaps) (s t : Bounds) (a n : ℕ) (moved : Bool) : Type 0 where
+  pub step : Step q s t moved
+  pub settled : moved ≡ false → (b : ℕ) → b < n → Settled q t a b
+
+-- steps for each of the first n and all, which are settled if nothing moved
+pub record Round (q : Gaps) (s t : Bounds) (n : ℕ) (moved : Bool) : Type 0 where
+  pub step : Step q s t moved
+  pub settled : moved ≡ false → (a : ℕ) → a < n → (b : ℕ) → b < q .count → Settled q t a b
+
+-- bounds narrowed until any two are settled
+pub record Narrowed (q : Gaps) (s t : Bounds) : Type 0 where
+  pub narrower : Narrower q s t
+  pub less : room-of t ≤ room-of s
+  pub settled : (a : ℕ) → a < q .count → (b : ℕ) → b < q .count → Settled q t a b

@@ -2,7 +2,7 @@
 ghost use Prim.Native.Nat.{_<_};
 ghost use Rattle.std.specs.Options.{Cases};
 ghost use Rattle.placing.specs.Bounds.{Nobody};
-ghost use Rattle.placing.specs.Steps.{Far, Met};
+ghost use Rattle.placing.specs.Steps.{Far, Met, Row, Round, Narrowed};
 use crate::moving::lower;
 use crate::moving::raise;
 use crate::room::Bounds;
@@ -39,4 +39,41 @@ fn meet(gaps: &Gaps, bounds: &mut Bounds, first: usize, second: usize) -> Option
     let raised = raise(bounds, second, earliest)?;
     let lowered = lower(bounds, first, last - far)?;
     Some(raised | lowered)
+}
+
+// Narrows the bounds of a green and each other.
+fn meet_all(gaps: &Gaps, bounds: &mut Bounds, first: usize) -> Option<bool>
+    requires { ⌜ first < now gaps .count ⌝ }
+    ensures { λ r. ⌜ Cases r (Nobody (now (gaps .entry)) (now (bounds .entry))) (λ moved. Row (now (gaps .entry)) (now (bounds .entry)) (now (bounds .exit)) first (now (gaps .entry) .count) moved) ⌝ }
+{
+    let mut moved = false;
+    for second in 0..gaps.count {
+        let news = meet(gaps, bounds, first, second)?;
+        moved = moved | news;
+    }
+    Some(moved)
+}
+
+// Narrows the bounds of any two greens once.
+fn go_round(gaps: &Gaps, bounds: &mut Bounds) -> Option<bool>
+    ensures { λ r. ⌜ Cases r (Nobody (now (gaps .entry)) (now (bounds .entry))) (λ moved. Round (now (gaps .entry)) (now (bounds .entry)) (now (bounds .exit)) (now (gaps .entry) .count) moved) ⌝ }
+{
+    let mut moved = false;
+    for first in 0..gaps.count {
+        let news = meet_all(gaps, bounds, first)?;
+        moved = moved | news;
+    }
+    Some(moved)
+}
+
+// Narrows all bounds until nothing moves; none where that leaves a green nowhere to begin.
+pub fn narrow(gaps: &Gaps, bounds: &mut Bounds) -> Option<()>
+    ensures { λ r. ⌜ Cases r (Nobody (now (gaps .entry)) (now (bounds .entry))) (λ _. Narrowed (now (gaps .entry)) (now (bounds .entry)) (now (bounds .exit))) ⌝ }
+{
+    loop {
+        let moved = go_round(gaps, bounds)?;
+        if !moved {
+            return Some(());
+        }
+    }
 }
