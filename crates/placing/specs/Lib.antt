@@ -1,4 +1,5 @@
 pub mod Bounds
+pub mod Clashes
 pub mod Gaps
 pub mod Orders
 pub mod Settings

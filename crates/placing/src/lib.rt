@@ -1,4 +1,5 @@
 // Starts for greens of given lengths: which keep all that crosses apart, or that there are none. Which lengths is left to the layers above.
+mod clashing;
 mod measuring;
 mod moving;
 mod narrowing;
