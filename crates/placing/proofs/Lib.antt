@@ -2,3 +2,5 @@ pub mod Bridge
 pub mod Gaps
 pub mod Rooms
 pub mod Steps
+pub mod Searches
+pub mod Opening
