@@ -1,0 +1,6 @@
+pub mod Bridge
+pub mod Gaps
+pub mod Rooms
+pub mod Steps
+pub mod Searches
+pub mod Opening

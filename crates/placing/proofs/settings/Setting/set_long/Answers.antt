@@ -1,0 +1,10 @@
+use mathlib.Core.Path.{sym, refl}
+use native.Mathlib.Omega.{arith}
+use Rattle.std.proofs.shelf.Lists.{set-past}
+use Rattle.placing.proofs.settings.Setting.set_long.Needs as need
+
+pub returns-else-green-lt12 : need.returns-else-green-lt12
+returns-else-green-lt12 c = record {
+  long = sym (set-past (c .args .self .now .long) (c .args .green) (c .args .seconds) (omega arith));
+  same = (refl, refl, refl, refl, refl);
+}

@@ -1,0 +1,18 @@
+// The starts that a search found, one for each green.
+ghost use mathlib.Core.Path.{_≡_};
+ghost use lib.ListN.{length, getD};
+
+#[derive(Clone, Copy)]
+pub struct Starts {
+    pub(crate) at: [u8; 12],
+    ghost sized: { length at ≡ 12 },
+}
+
+impl Starts {
+    // The second in which a green begins; 0 past the twelfth.
+    pub fn start(&self, green: usize) -> u8
+        ensures { λ r. ⌜ r ≡ getD (now (self .entry) .at) green 0 ⌝ }
+    {
+        if green < 12 { self.at[green] } else { 0 }
+    }
+}

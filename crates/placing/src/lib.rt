@@ -1,0 +1,15 @@
+// Starts for greens of given lengths: which keep all that crosses apart, or that there are none. Which lengths is left to the layers above.
+mod answers;
+mod clashing;
+mod measuring;
+mod moving;
+mod narrowing;
+mod placed;
+mod room;
+mod searching;
+mod settings;
+mod spacing;
+
+pub use answers::Starts;
+pub use placed::place;
+pub use settings::Setting;

@@ -1,0 +1,15 @@
+// By how much each green has to begin before each other, where it comes first.
+ghost use mathlib.Core.Path.{_≡_};
+ghost use Prim.Native.Nat.{_≤_};
+ghost use lib.ListN.{length};
+use greens::Cycle;
+
+#[derive(Clone, Copy)]
+pub struct Gaps {
+    pub(crate) cycle: Cycle,
+    pub(crate) count: usize,
+    // Row by row, twelve numbers each: 0 for two that may be on together.
+    pub(crate) gap: [u16; 144],
+    ghost few: { count ≤ 12 },
+    ghost sized: { length gap ≡ 144 },
+}
