@@ -1,0 +1,4 @@
+pub mod Sums
+pub mod Least
+pub mod Claims
+pub mod Spare

@@ -1,0 +1,4 @@
+pub mod Among
+pub mod Groups
+pub mod Laws
+pub mod Spares

@@ -1,0 +1,5 @@
+// Groups of streams that all cross each other, and what they need of the cycle that they share. Which greens they get is left to the layers above.
+mod laws;
+
+pub use laws::shares;
+pub use laws::too_much;
