@@ -51,3 +51,19 @@ among-out (suc n) test figure k h e =
     let found : some-to n test ≡ true = some-in n test k (omega arith) e in
     grind (arith, tells))
     (cases-eq k n)
+
+-- one turn of a loop that looks for the least: a number that passes is compared with the least so far, if there is one
+pub among-took : (n : ℕ) (test : ℕ → Bool) (figure : ℕ → ℕ) (found : Bool) (least here next : ℕ) → found ≡ some-to n test → test n ≡ true →
+    least ≡ least-among n test figure → here ≡ figure n → next ≡ cond found (min here least) here → next ≡ least-among (n + 1) test figure
+among-took n test figure found least here next e passes before at is =
+    let more = among-more n test figure in rw (more, passes, ← e, ← before, ← at) is
+
+pub among-left : (n : ℕ) (test : ℕ → Bool) (figure : ℕ → ℕ) (least : ℕ) → test n ≡ false →
+    least ≡ least-among n test figure → least ≡ least-among (n + 1) test figure
+among-left n test figure least here before = rw (among-more, here) before
+
+pub some-took : (n : ℕ) (test : ℕ → Bool) → test n ≡ true → true ≡ some-to (n + 1) test
+some-took n test here = rw (some-more, here)
+
+pub some-left : (n : ℕ) (test : ℕ → Bool) (found : Bool) → test n ≡ false → found ≡ some-to n test → found ≡ some-to (n + 1) test
+some-left n test found here before = rw (some-more, here) before

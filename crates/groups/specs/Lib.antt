@@ -1,4 +1,5 @@
 pub mod Among
 pub mod Groups
 pub mod Laws
+pub mod Members
 pub mod Spares

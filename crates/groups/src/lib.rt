@@ -1,5 +1,11 @@
 // Groups of streams that all cross each other, and what they need of the cycle that they share. Which greens they get is left to the layers above.
+mod asking;
+mod clearing;
+mod joining;
 mod laws;
+mod members;
+mod needs;
 
 pub use laws::shares;
 pub use laws::too_much;
+pub use members::Group;
