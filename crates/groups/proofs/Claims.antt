@@ -18,7 +18,7 @@ use Rattle.crossing.specs.Good.{apart, good}
 use Rattle.crossing.proofs.Below.{all-out}
 use Rattle.crossing.proofs.Good.{good-out, apart-out}
 use Rattle.groups.specs.Among.{some-to, least-among}
-use Rattle.groups.specs.Groups.{other, all-cross, gap, share, need}
+use Rattle.groups.specs.Groups.{other, meets, all-cross, gap, share, need}
 use Rattle.groups.proofs.Sums.{sum-mono, claims-share}
 use Rattle.groups.proofs.Least.{some-out, among-none, among-out}
 
@@ -27,8 +27,8 @@ pub cross-out : (j : Site) (member : ℕ → Bool) → all-cross j member ≡ tr
     (a : ℕ) → a < j .streams → (b : ℕ) → b < j .streams → member a ≡ true → member b ≡ true → (a ≡ b → ⊥) → j .crosses a b ≡ true
 unfolding all-cross
 cross-out j member e a ha b hb ma mb differ =
-    let row = all-out (j .streams) (λ x. all-to (j .streams) (λ y. not (member x && other member x y) || j .crosses x y)) e a ha in
-    let here = all-out (j .streams) (λ y. not (member a && other member a y) || j .crosses a y) row b hb in
+    let row = all-out (j .streams) (λ x. all-to (j .streams) (meets j member x)) e a ha in
+    let here = all-out (j .streams) (meets j member a) row b hb in
     let apart-ids : eqb a b ≡ false = ne-eqb a b differ in
     rw (ma, mb, apart-ids) at here
 

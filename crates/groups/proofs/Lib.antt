@@ -1,3 +1,4 @@
+pub mod Every
 pub mod Sums
 pub mod Least
 pub mod Shared

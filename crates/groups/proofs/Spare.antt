@@ -11,7 +11,7 @@ use Rattle.crossing.specs.Site.{Site, Greens}
 use Rattle.crossing.specs.Good.{good, enough, spare, worst}
 use Rattle.crossing.proofs.Below.{all-out, least-out, least-bound}
 use Rattle.crossing.proofs.Good.{good-out, enough-out}
-use Rattle.groups.specs.Groups.{all-cross, need, asked, overfull}
+use Rattle.groups.specs.Groups.{all-cross, need, asked, wants, overfull}
 use Rattle.groups.specs.Spares.{Under}
 use Rattle.groups.proofs.Claims.{shares}
 
@@ -31,13 +31,12 @@ pub record Overfull (j : Site) (w : ℕ) (member : ℕ → Bool) : Type 0 where
 pub overfull-out : (j : Site) (w : ℕ) (member : ℕ → Bool) → overfull j w member ≡ true → Overfull j w member
 unfolding overfull
 overfull-out j w member e =
-    let some-test : ℕ → Bool = λ k. not (member k) || ltb 0 (asked j w k) in
-    let parts = and-parts (all-cross j member) (all-to (j .streams) some-test && ltb (j .cycle) (need j (asked j w) member)) e in
-    let rest = and-parts (all-to (j .streams) some-test) (ltb (j .cycle) (need j (asked j w) member)) (parts .1) in
+    let parts = and-parts (all-cross j member) (all-to (j .streams) (wants j w member) && ltb (j .cycle) (need j (asked j w) member)) e in
+    let rest = and-parts (all-to (j .streams) (wants j w member)) (ltb (j .cycle) (need j (asked j w) member)) (parts .1) in
     record {
       is-group = parts .0;
       some = λ k h mk.
-          let here : (not (member k) || ltb 0 (asked j w k)) ≡ true = all-out (j .streams) some-test (rest .0) k h in
+          let here : (not (member k) || ltb 0 (asked j w k)) ≡ true = all-out (j .streams) (wants j w member) (rest .0) k h in
           let some : ltb 0 (asked j w k) ≡ true = rw mk at here in
           omega (arith, ltb-true 0 (asked j w k) some);
       more = ltb-true (j .cycle) (need j (asked j w) member) (rest .1);

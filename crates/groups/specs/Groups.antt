@@ -11,9 +11,13 @@ use Rattle.groups.specs.Among.{least-among}
 abbrev pub other : (member : ℕ → Bool) (a b : ℕ) → Bool
 other member a b = member b && not (eqb a b)
 
+-- a and b are not two members, or a crosses b
+abbrev pub meets : Site → (member : ℕ → Bool) (a b : ℕ) → Bool
+meets j member a b = not (member a && other member a b) || j .crosses a b
+
 -- a set of streams is a group: of any two different members each crosses the other
 unfoldable pub all-cross : Site → (member : ℕ → Bool) → Bool
-all-cross j member = all-to (j .streams) (λ a. all-to (j .streams) (λ b. not (member a && other member a b) || j .crosses a b))
+all-cross j member = all-to (j .streams) (λ a. all-to (j .streams) (meets j member a))
 
 -- the least seconds to clear after a stream before another of the group; 0 if there is no other
 unfoldable pub gap : Site → (member : ℕ → Bool) (stream : ℕ) → ℕ
@@ -31,9 +35,10 @@ need j long member = sum-to (j .streams) (share j long member)
 abbrev pub asked : Site → (w stream : ℕ) → ℕ
 asked j w k = max (j .least k) (j .comes k + w)
 
+-- a stream is no member, or has to have a green if every stream is to have w to spare
+abbrev pub wants : Site → (w : ℕ) (member : ℕ → Bool) (stream : ℕ) → Bool
+wants j w member k = not (member k) || ltb 0 (asked j w k)
+
 -- a group is overfull, if every stream is to have w to spare: all its members have to have a green, and together they need more than the cycle
 unfoldable pub overfull : Site → (w : ℕ) (member : ℕ → Bool) → Bool
-overfull j w member =
-    all-cross j member
-    && (all-to (j .streams) (λ k. not (member k) || ltb 0 (asked j w k))
-    && ltb (j .cycle) (need j (asked j w) member))
+overfull j w member = all-cross j member && (all-to (j .streams) (wants j w member) && ltb (j .cycle) (need j (asked j w) member))

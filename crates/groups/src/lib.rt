@@ -3,8 +3,10 @@ mod asking;
 mod clearing;
 mod joining;
 mod laws;
+mod meeting;
 mod members;
 mod needs;
+mod overfull;
 
 pub use laws::shares;
 pub use laws::too_much;
