@@ -3,3 +3,4 @@ pub mod Groups
 pub mod Laws
 pub mod Members
 pub mod Spares
+pub mod Whys

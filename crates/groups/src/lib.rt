@@ -2,15 +2,17 @@
 mod asking;
 mod clearing;
 mod crowds;
+mod finding;
+mod fullness;
 mod growing;
 mod joining;
 mod laws;
 mod meeting;
 mod members;
 mod needs;
-mod overfull;
 mod spares;
 
+pub use finding::overfull;
 pub use laws::shares;
 pub use laws::too_much;
 pub use members::Group;
