@@ -47,7 +47,7 @@ impl Crowd {
     pub(crate) fn seems_full(&self, junction: &Junction, next: usize, spare: u8) -> bool {
         let cycle = junction.cycle().seconds() as u16;
         let mut sum = 0;
-        for stream in 0..12 {
+        for stream in 0..junction.streams() {
             let member = self.group.has(stream);
             if member | ((stream >= next) & self.free[stream]) {
                 let long = asking::asked(junction, spare, stream);
