@@ -1,23 +1,22 @@
 -- The members of a group claim seconds of the cycle: those of their greens, and those to clear after them. No second is claimed twice.
-use mathlib.Core.Path.{_≡_, refl, sym}
-use mathlib.Core.Bool.{Bool, true, false, _&&_, _||_, not, cond}
-use Prim.Native.Nat.{ℕ, _+_, _≤_, _<_, min}
+use mathlib.Core.Path.{_≡_, sym}
+use mathlib.Core.Bool.{Bool, true, false, not, cond}
+use Prim.Native.Nat.{ℕ, _+_, _≤_, _<_}
 use native.Mathlib.Omega.{arith}
 use mathlib.Core.Logic.{⊎-elim}
 use lib.Dec.{ltb, eqb}
-use Rattle.std.proofs.shelf.Tests.{and-parts, and-from, ltb-true, ltb-false, lt-ltb, le-ltb, ne-eqb, eqb-false, false≢true, not-true, not-from-false, cases-bool, cases-eq, cases-lt, cond-both}
-use Rattle.std.proofs.shelf.Ways.{tells}
+use Rattle.std.proofs.shelf.Tests.{and-parts, and-from, ltb-true, ltb-false, ne-eqb, eqb-false, false≢true, not-true, not-from-false, cases-bool, cases-eq, cases-lt}
 use Rattle.greens.specs.declared.lights.Green.{Green}
 use Rattle.greens.specs.Circle.{after}
 use Rattle.greens.specs.Greens.{on, count-to}
 use Rattle.greens.proofs.Circle.{after-cases, after-below}
 use Rattle.greens.proofs.Counts.{as-long}
-use Rattle.crossing.specs.Below.{all-to, sum-to}
+use Rattle.crossing.specs.Below.{all-to}
 use Rattle.crossing.specs.Site.{Site, Greens}
 use Rattle.crossing.specs.Good.{apart, good}
 use Rattle.crossing.proofs.Below.{all-out}
 use Rattle.crossing.proofs.Good.{good-out, apart-out}
-use Rattle.groups.specs.Among.{some-to, least-among}
+use Rattle.groups.specs.Among.{some-to}
 use Rattle.groups.specs.Groups.{other, meets, all-cross, gap, share, need}
 use Rattle.groups.proofs.Sums.{sum-mono, claims-share}
 use Rattle.groups.proofs.Least.{some-out, among-none, among-out}

@@ -6,7 +6,7 @@ use native.Mathlib.Omega.{arith}
 use native.Mathlib.Numerals.{add-one}
 use mathlib.Core.Logic.{⊎-elim}
 use Rattle.std.specs.Orderings.{Decides}
-use Rattle.std.proofs.shelf.Tests.{cases-eq, cases-bool, or-parts}
+use Rattle.std.proofs.shelf.Tests.{cases-eq, or-parts}
 use Rattle.std.proofs.shelf.Ways.{decides-below-or, tells}
 use Rattle.groups.specs.Among.{some-to, least-among}
 

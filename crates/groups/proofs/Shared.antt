@@ -1,6 +1,6 @@
 -- What a stream takes of the cycle, if it is a member and if not.
 use mathlib.Core.Path.{_≡_}
-use mathlib.Core.Bool.{Bool, true, false, cond}
+use mathlib.Core.Bool.{Bool, true, false}
 use Prim.Native.Nat.{ℕ, _+_}
 use Rattle.crossing.specs.Site.{Site}
 use Rattle.groups.specs.Groups.{gap, share}

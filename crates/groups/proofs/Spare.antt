@@ -1,12 +1,12 @@
 -- What is too much to spare: more than the cycle leaves to a stream, or to a group.
 use mathlib.Core.Path.{_≡_}
-use mathlib.Core.Bool.{Bool, true, false, _&&_, _||_, not}
+use mathlib.Core.Bool.{Bool, true, _&&_, _||_, not}
 use Prim.Native.Nat.{ℕ, _+_, _-_, _≤_, _<_, max}
 use native.Mathlib.Omega.{arith}
 use mathlib.Core.Logic.{⊎-elim}
 use lib.Dec.{ltb}
 use Rattle.std.proofs.shelf.Tests.{and-parts, ltb-true, cases-lt}
-use Rattle.crossing.specs.Below.{all-to, least-to}
+use Rattle.crossing.specs.Below.{all-to}
 use Rattle.crossing.specs.Site.{Site, Greens}
 use Rattle.crossing.specs.Good.{good, enough, spare, worst}
 use Rattle.crossing.proofs.Below.{all-out, least-out, least-bound}

@@ -4,7 +4,7 @@ use mathlib.Core.Bool.{Bool, true, false, cond}
 use Prim.Native.Nat.{ℕ, zero, suc, _+_, _≤_, _<_}
 use native.Mathlib.Omega.{arith}
 use native.Mathlib.Numerals.{add-one}
-use Rattle.std.proofs.shelf.Tests.{cond-both, cases-bool, both-ways}
+use Rattle.std.proofs.shelf.Tests.{cases-bool}
 use mathlib.Core.Logic.{⊎-elim}
 use Rattle.greens.specs.Greens.{count-to}
 use Rattle.crossing.specs.Below.{sum-to}

@@ -1,5 +1,4 @@
 // What a junction asks of a stream and of two.
-ghost use mathlib.Core.Bool.{Bool};
 ghost use mathlib.Core.Path.{_≡_};
 ghost use Prim.Native.Nat.{_+_, _<_, _≤_};
 ghost use Rattle.crossing.specs.Taken.{site-of};

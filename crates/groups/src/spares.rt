@@ -1,5 +1,4 @@
 // How much can be spared at most, by all the groups of a junction.
-ghost use mathlib.Core.Path.{_≡_};
 ghost use Rattle.crossing.specs.Taken.{site-of};
 ghost use Rattle.groups.specs.Spares.{Under, AtMost};
 use crate::crowds::Crowd;

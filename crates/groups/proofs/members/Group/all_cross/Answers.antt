@@ -1,6 +1,4 @@
 use mathlib.Core.Path.{_≡_, sym}
-use mathlib.Core.Bool.{Bool}
-use Prim.Native.Nat.{ℕ}
 use native.Mathlib.Omega.{arith}
 use Rattle.crossing.specs.Below.{all-to}
 use Rattle.crossing.specs.Taken.{site-of}

@@ -1,6 +1,4 @@
 use mathlib.Core.Path.{sym, _∙_}
-use mathlib.Core.Bool.{Bool}
-use Prim.Native.Nat.{ℕ}
 use native.Mathlib.Omega.{arith}
 use Rattle.crossing.specs.Site.{Site}
 use Rattle.crossing.specs.Taken.{site-of}
