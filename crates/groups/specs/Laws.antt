@@ -6,7 +6,8 @@ use Rattle.crossing.specs.Site.{Site, Greens}
 use Rattle.crossing.specs.Good.{good, enough, worst}
 use Rattle.groups.specs.Groups.{all-cross, need, overfull}
 
--- the members of a group share the cycle: for greens that are as long in a good plan, a group needs no more than the cycle
+-- the members of a group share the cycle: where a good plan gives each member a green, and one of at least such a length,
+-- the group needs no more than the cycle for those lengths
 abbrev pub Shares : Type 0
 Shares =
     (j : Site) (p : Greens) (long : ℕ → ℕ) (member : ℕ → Bool) → good j p ≡ true → all-cross j member ≡ true →

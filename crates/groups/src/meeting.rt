@@ -23,7 +23,8 @@ impl Group {
 
     // Whether a stream, if it is a member, crosses every other one.
     fn meets_all(&self, junction: &Junction, stream: usize) -> bool
-        ensures { λ r. ⌜ (stream < now (junction .entry) .count → r ≡ all-to (now (junction .entry) .count) (meets (site-of (now (junction .entry))) (member-of (now (self .entry))) stream)) ⌝ }
+        ensures { λ r. ⌜ (stream < now (junction .entry) .count →
+            r ≡ all-to (now (junction .entry) .count) (meets (site-of (now (junction .entry))) (member-of (now (self .entry))) stream)) ⌝ }
     {
         let mut all = true;
         for next in 0..junction.streams() {
@@ -34,7 +35,8 @@ impl Group {
 
     // Whether two streams, if they are two members, cross.
     fn meets(&self, junction: &Junction, stream: usize, next: usize) -> bool
-        ensures { λ r. ⌜ (stream < now (junction .entry) .count → next < now (junction .entry) .count → r ≡ meets (site-of (now (junction .entry))) (member-of (now (self .entry))) stream next) ⌝ }
+        ensures { λ r. ⌜ (stream < now (junction .entry) .count → next < now (junction .entry) .count →
+            r ≡ meets (site-of (now (junction .entry))) (member-of (now (self .entry))) stream next) ⌝ }
     {
         !(self.has(stream) && self.has_other(stream, next))
             || asking::crosses(junction, stream, next)

@@ -11,7 +11,8 @@ use crossing::Junction;
 impl Group {
     // What a stream of the junction takes: if it is a member, how long its green has to be and the least seconds to clear after it before another.
     pub fn share(&self, junction: &Junction, spare: u8, stream: usize) -> u16
-        ensures is { λ r. ⌜ (stream < now (junction .entry) .count → r ≡ share (site-of (now (junction .entry))) (asked (site-of (now (junction .entry))) spare) (member-of (now (self .entry))) stream) ⌝ }
+        ensures is { λ r. ⌜ (stream < now (junction .entry) .count →
+            r ≡ share (site-of (now (junction .entry))) (asked (site-of (now (junction .entry))) spare) (member-of (now (self .entry))) stream) ⌝ }
         ensures most { λ r. ⌜ r ≤ 765 ⌝ }
     {
         if self.has(stream) {
