@@ -6,7 +6,7 @@ ghost use Rattle.groups.specs.Groups.{asked};
 use crossing::Junction;
 
 // How long a stream's green has to be at least, if the stream is to have so much to spare.
-pub(crate) fn asked(junction: &Junction, spare: u8, stream: usize) -> u16
+pub fn asked(junction: &Junction, spare: u8, stream: usize) -> u16
     ensures is { λ r. ⌜ r ≡ asked (site-of (now (junction .entry))) spare stream ⌝ }
     ensures most { λ r. ⌜ r ≤ 510 ⌝ }
 {

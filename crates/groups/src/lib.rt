@@ -12,6 +12,7 @@ mod members;
 mod needs;
 mod spares;
 
+pub use asking::asked;
 pub use finding::overfull;
 pub use laws::shares;
 pub use laws::too_much;

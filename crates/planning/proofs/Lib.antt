@@ -2,6 +2,7 @@ pub mod Bad
 pub mod Choose
 pub mod Exist
 pub mod First
+pub mod Grounds
 pub mod Leave
 pub mod Progress
 pub mod Same

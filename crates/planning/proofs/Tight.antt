@@ -10,7 +10,8 @@ use Rattle.greens.specs.Greens.{on}
 use Rattle.crossing.specs.Site.{Site, Greens}
 use Rattle.crossing.specs.Good.{apart}
 use Rattle.crossing.proofs.Good.{Fitting, GoodPlan, good-out, good-in, enough-in, apart-out, apart-in}
-use Rattle.planning.specs.Lengths.{Leaves, long-for, plan-for, cut}
+use Rattle.groups.specs.Groups.{asked}
+use Rattle.planning.specs.Lengths.{Leaves, plan-for, cut}
 use Rattle.planning.proofs.Worst.{worst-bound, worst-out, worst-in, spare-long, spare-in}
 
 -- a shorter green is on in no other second
@@ -27,7 +28,7 @@ apart-shorter c clear g h g2 h2 same-g same-h shorter-g shorter-h e =
     on-shorter c h h2 s same-h shorter-h (apart-out c clear g h e s within (omega arith) (omega arith)))
 
 -- beginnings in the cycle, with which all that crosses is apart, leave w to spare if the lengths for that are no longer than the cycle
-pub begins-in : (j : Site) (w : ℕ) (begins : ℕ → ℕ) → w ≤ j .cycle → ((k : ℕ) → k < j .streams → (begins k < j .cycle) × (long-for j w k ≤ j .cycle)) →
+pub begins-in : (j : Site) (w : ℕ) (begins : ℕ → ℕ) → w ≤ j .cycle → ((k : ℕ) → k < j .streams → (begins k < j .cycle) × (asked j w k ≤ j .cycle)) →
     ((a : ℕ) → a < j .streams → (b : ℕ) → b < j .streams → j .crosses a b ≡ true → (a ≡ b → ⊥) →
     apart (j .cycle) (j .clear a b) (plan-for j w begins a) (plan-for j w begins b) ≡ true) →
     Leaves j w (plan-for j w begins)
@@ -42,13 +43,13 @@ begins-in j w begins top within keeps =
     }
 
 -- a green of a plan that leaves w to spare is at least as long as that asks for
-pub leaves-long : (j : Site) (w : ℕ) (p : Greens) → Leaves j w p → (k : ℕ) → k < j .streams → long-for j w k ≤ p k .long
+pub leaves-long : (j : Site) (w : ℕ) (p : Greens) → Leaves j w p → (k : ℕ) → k < j .streams → asked j w k ≤ p k .long
 leaves-long j w p l k h =
     let fit : Fitting j k (p k) = good-out j p (l .is-good) .fitting k h in
     omega (arith, spare-long j p (l .all-go) k h, worst-out j p w (l .spares) k h, fit .least-long)
 
 -- and so that is no longer than the cycle
-pub leaves-within : (j : Site) (w : ℕ) (p : Greens) → Leaves j w p → (k : ℕ) → k < j .streams → long-for j w k ≤ j .cycle
+pub leaves-within : (j : Site) (w : ℕ) (p : Greens) → Leaves j w p → (k : ℕ) → k < j .streams → asked j w k ≤ j .cycle
 leaves-within j w p l k h =
     let fit : Fitting j k (p k) = good-out j p (l .is-good) .fitting k h in omega (arith, leaves-long j w p l k h, fit .within)
 

@@ -1,5 +1,6 @@
 pub mod Alike
 pub mod Exists
+pub mod Laying
 pub mod Lengths
 pub mod Tries
 pub mod Worked

@@ -1,5 +1,6 @@
 // A best plan for a junction, or that there is none. Words are left to the layers above.
 mod laws;
+mod laying;
 mod tries;
 
 pub use laws::best_or_none;
