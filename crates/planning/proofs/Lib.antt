@@ -5,6 +5,7 @@ pub mod First
 pub mod Grounds
 pub mod Leave
 pub mod Progress
+pub mod Reach
 pub mod Same
 pub mod Tight
 pub mod Turns

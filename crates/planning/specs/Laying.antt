@@ -48,3 +48,17 @@ pub record Opened (s t : Setting) (anchor last i : ℕ) : Type 0 where
   pub table : t .table ≡ s .table
   pub low : ((k : ℕ) → getD (s .lowest) k 0 ≡ 0) → (k : ℕ) → getD (t .lowest) k 0 ≡ 0
   pub high : (k : ℕ) → k < i → (k ≡ anchor → ⊥) → getD (t .highest) k 0 ≡ last
+
+-- the first i greens of a setting are as long as they have to be for w to spare, and that is no longer than the cycle; nothing else is changed
+pub record Lengthened (j : Site) (w : ℕ) (s t : Setting) (i : ℕ) : Type 0 where
+  pub cycle : t .cycle ≡ s .cycle
+  pub count : t .count ≡ s .count
+  pub table : t .table ≡ s .table
+  pub lowest : t .lowest ≡ s .lowest
+  pub highest : t .highest ≡ s .highest
+  pub long : (k : ℕ) → k < i → getD (t .long) k 0 ≡ asked j w k
+  pub within : (k : ℕ) → k < i → asked j w k ≤ j .cycle
+
+-- some green would have to be longer than the cycle
+abbrev pub Overlong : Site → (w : ℕ) → Type 0
+Overlong j w = (k : ℕ) × (k < j .streams) × (j .cycle < asked j w k)

@@ -1,8 +1,10 @@
 // A best plan for a junction, or that there is none. Words are left to the layers above.
+mod finding;
 mod laws;
 mod laying;
 mod tries;
 
+pub use finding::best;
 pub use laws::best_or_none;
 pub use laws::nine_to_spare;
 pub use laws::too_much;
