@@ -9,13 +9,13 @@ use lib.Dec.{ltb, leb, eqb}
 use lib.ListN.{length, getD}
 use Rattle.std.specs.declared.option.Option.{Option}
 use Rattle.std.specs.declared.option.Option.the-variants.{Some, None}
-use Rattle.std.proofs.shelf.Tests.{or-parts, or-from, ltb-false, eqb-true, not-false, le-ltb, lt-ltb, or-left, or-right, cases-lt}
+use Rattle.std.proofs.shelf.Tests.{or-parts, or-from, ltb-false, eqb-true, not-false, le-ltb, lt-ltb, or-left, or-right, cases-bool, cases-lt}
 use Rattle.std.proofs.shelf.Ways.{tells}
 use Rattle.crossing.specs.declared.refusals.Refusal.{Refusal}
-use Rattle.crossing.specs.declared.refusals.Refusal.the-variants.{Cycle}
+use Rattle.crossing.specs.declared.refusals.Refusal.the-variants.{Cycle, Room}
 use Rattle.crossing.specs.Below.{all-to}
 use Rattle.crossing.specs.Tables.{entry, crossing, both-ways}
-use Rattle.crossing.specs.Numbers.{refusal, streams-refusal, table-refusal, or-else, first-above, faulty-row, faulty-column, fault}
+use Rattle.crossing.specs.Numbers.{refusal, streams-refusal, table-refusal, room-refusal, or-else, first-above, faulty-row, faulty-column, fault}
 use Rattle.crossing.proofs.Below.{all-in, first-below}
 
 pub cycle-refused : (c n : ℕ) (pairs table : List ℕ) → ((1 ≤ c) × (c ≤ 120) → ⊥) → refusal c n pairs table ≡ Some (Cycle c)
@@ -78,3 +78,9 @@ faultless-both n table copy faultless same =
     let row : ltb (faulty-column n table a) n ≡ false = first-below n (λ i. ltb (faulty-column n table i) n) a (omega arith) in
     let sound : fault n table a b ≡ false = first-below n (fault n table a) b (omega (arith, ltb-false _ _ row)) in
     rw (same (a * n + b), same (b * n + a)) (grind (arith, tells))))
+
+-- a room that is taken has two numbers for each stream
+pub room-taken : (n : ℕ) (room : List ℕ) → room-refusal n room ≡ None → length room ≡ 2 * n
+room-taken n room is =
+    ⊎-elim (λ (e : eqb (length room) (2 * n) ≡ true). eqb-true _ _ e) (λ (e : eqb (length room) (2 * n) ≡ false). absurd (some-none (Room (length room)) (rw e at is)))
+    (cases-bool (eqb (length room) (2 * n)))

@@ -1,12 +1,12 @@
 -- Plans that give the streams of a junction the same greens are as good, and leave as much to spare.
-use mathlib.Core.Path.{_≡_, refl, ap, sym}
+use mathlib.Core.Path.{_≡_, refl, ap, sym, subst, _∙_}
 use mathlib.Core.Bool.{true}
 use Prim.Native.Nat.{ℕ, zero, suc, _-_, _<_}
 use native.Mathlib.Omega.{arith}
 use Rattle.greens.specs.declared.lights.Green.{Green}
 use Rattle.crossing.specs.Below.{least-to}
 use Rattle.crossing.specs.Site.{Site, Greens}
-use Rattle.crossing.specs.Good.{good, enough, spare, worst}
+use Rattle.crossing.specs.Good.{good, enough, spare, worst, Best}
 use Rattle.crossing.proofs.Good.{GoodPlan, good-out, good-in, enough-out, enough-in}
 use Rattle.planning.specs.Alike.{Alike}
 use Rattle.planning.specs.Lengths.{Leaves}
@@ -42,3 +42,16 @@ same-leaves j w p q same l =
       all-go = same-enough j p q same (l .all-go);
       spares = omega (arith, l .spares, same-worst j p q same);
     }
+
+pub same-best : (j : Site) (p q : Greens) → Alike (j .streams) p q → Best j p → Best j q
+same-best j p q same best =
+    record {
+      is-good = same-good j p q same (best .is-good);
+      all-go = same-enough j p q same (best .all-go);
+      most = λ r g e. omega (arith, best .most r g e, same-worst j p q same);
+    }
+
+-- what was found for a junction that was read is best for its numbers, where it was written
+pub same-found : (read given : Site) (p q : Greens) (w : ℕ) → read ≡ given → Alike (read .streams) p q → Best read p → w ≡ worst read p → Best given q × (w ≡ worst given q)
+same-found read given p q w is same best spares =
+    subst (λ (j : Site). Best j q × (w ≡ worst j q)) is (same-best read p q same best, spares ∙ same-worst read p q same)

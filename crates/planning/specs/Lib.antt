@@ -1,4 +1,5 @@
 pub mod Alike
+pub mod Entry
 pub mod Exists
 pub mod Laying
 pub mod Lengths

@@ -48,7 +48,12 @@ pub(crate) fn lay(junction: &Junction, anchor: usize) -> Setting
         Some(new) => {
             let mut setting = new;
             write_table(&mut setting, junction);
-            open_windows(&mut setting, junction.streams(), anchor, junction.cycle().seconds() - 1);
+            open_windows(
+                &mut setting,
+                junction.streams(),
+                anchor,
+                junction.cycle().seconds() - 1,
+            );
             setting
         }
         None => unreachable(),

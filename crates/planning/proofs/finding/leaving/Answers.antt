@@ -1,10 +1,8 @@
-use native.Mathlib.Omega.{arith}
 use Rattle.greens.specs.Plans.{green-of}
 use Rattle.crossing.specs.Taken.{site-of}
 use Rattle.placing.specs.Searches.{start-of}
-use Rattle.placing.specs.Settings.{task-of}
 use Rattle.planning.specs.Lengths.{plan-for}
-use Rattle.planning.proofs.Reach.{overlong-none, laid-longer, asked-longer, placed-leaves, placed-none}
+use Rattle.planning.proofs.Reach.{overlong-none, reached, unreached}
 use Rattle.planning.proofs.Same.{same-leaves}
 use Rattle.planning.proofs.finding.leaving.Needs as need
 
@@ -13,21 +11,13 @@ returns-in-Break-setting c = rw (c .from-residual .ensures) (overlong-none (site
 
 pub returns-in-Break-starts : need.returns-in-Break-starts
 returns-in-Break-starts c =
-    let laid = laid-longer (site-of (c .args .junction .now)) (c .args .anchor) (c .args .spare) (c .args .ground .now) (c .in-Continue-setting .setting) (c .pre .1)
-        (c .in-Continue-setting .ensures tt)
-    in
-    let lengths = asked-longer (site-of (c .args .junction .now)) (c .args .spare) (c .args .ground .now) (c .in-Continue-setting .setting) (c .in-Continue-setting .ensures tt) in
     rw (c .from-residual-in-Break-starts .ensures)
-    (placed-none (site-of (c .args .junction .now)) (c .args .spare) (c .args .anchor) (task-of (c .in-Continue-setting .setting)) laid lengths (c .pre .0)
-      (c .in-Break-starts .ensures tt))
+    (unreached (site-of (c .args .junction .now)) (c .args .spare) (c .args .anchor) (c .args .ground .now) (c .in-Continue-setting .setting) (c .pre .1)
+    (c .in-Continue-setting .ensures tt) (c .pre .0) (c .in-Break-starts .ensures tt))
 
 pub returns : need.returns
 returns c =
-    let laid = laid-longer (site-of (c .args .junction .now)) (c .args .anchor) (c .args .spare) (c .args .ground .now) (c .in-Continue-setting .setting) (c .pre .1)
-        (c .in-Continue-setting .ensures tt)
-    in
-    let lengths = asked-longer (site-of (c .args .junction .now)) (c .args .spare) (c .args .ground .now) (c .in-Continue-setting .setting) (c .in-Continue-setting .ensures tt) in
     same-leaves (site-of (c .args .junction .now)) (c .args .spare) (plan-for (site-of (c .args .junction .now)) (c .args .spare) (start-of (c .in-Continue-starts .starts)))
     (green-of (c .plan-from .result .greens)) (c .plan-from .ensures)
-    (placed-leaves (site-of (c .args .junction .now)) (c .args .spare) (c .args .anchor) (task-of (c .in-Continue-setting .setting)) laid lengths
-      (start-of (c .in-Continue-starts .starts)) (c .args .junction .now .few .0) (c .in-Continue-starts .ensures tt))
+    (reached (site-of (c .args .junction .now)) (c .args .spare) (c .args .anchor) (c .args .ground .now) (c .in-Continue-setting .setting) (c .pre .1)
+    (c .in-Continue-setting .ensures tt) (start-of (c .in-Continue-starts .starts)) (c .args .junction .now .few .0) (c .in-Continue-starts .ensures tt))
