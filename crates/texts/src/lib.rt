@@ -1,0 +1,5 @@
+// Words: junctions read from a text, and plans, rings and refusals printed. Files and arguments are left to the program above.
+mod drafts;
+mod saying;
+mod taking;
+mod wording;
