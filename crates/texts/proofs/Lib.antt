@@ -1,6 +1,7 @@
 pub mod Figures
 pub mod Seeks
 pub mod Taken
+pub mod Tells
 pub mod Says
 pub mod Pushes
 pub mod Fronts

@@ -131,3 +131,9 @@ module _ (bs rest : List ℕ) (g e : ℕ) (is : g ≡ gap bs) (rests : rest ≡ 
   word-cut some =
       rw (take-rest rest e)
       (rw (sym rest-is) at (one-word bs e (ap word-end (sym rest-is) ∙ sym ends) some))
+
+-- an empty text has no lines
+pub no-lines : (bs : List ℕ) → length bs ≡ 0 → lines bs ≡ []
+unfolding lines
+no-lines [] none = refl
+no-lines (b ∷ bs) none = absurd (omega arith)
