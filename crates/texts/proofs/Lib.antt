@@ -1,5 +1,6 @@
 pub mod Figures
 pub mod Seeks
+pub mod SameNumbers
 pub mod Taken
 pub mod Tells
 pub mod Says

@@ -2,3 +2,4 @@ pub mod Words
 pub mod Lines
 pub mod Drafts
 pub mod Sections
+pub mod Numbers
