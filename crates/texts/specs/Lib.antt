@@ -3,3 +3,5 @@ pub mod Lines
 pub mod Drafts
 pub mod Sections
 pub mod Numbers
+pub mod Answers
+pub mod Printed
