@@ -1,5 +1,6 @@
 pub mod Figures
 pub mod Seeks
+pub mod Rows
 pub mod Puts
 pub mod SameNumbers
 pub mod Taken

@@ -21,10 +21,14 @@ green-words g = cond (eqb (g .long) 0) (codes "never") (span-words g)
 abbrev pub stream-words : (name : List ℕ) → Green → List ℕ
 stream-words name g = name ++ (codes " " ++ (green-words g ++ codes ", "))
 
--- the streams from the k-th on, one after the other
-unfoldable pub streams-words : List (List ℕ) → (k : ℕ) → (ℕ → Green) → List ℕ
-streams-words [] k plan = []
-streams-words (name ∷ names) k plan = stream-words name (plan k) ++ streams-words names (k + 1) plan
+-- a piece of text for each stream, by its name and its green, from the k-th stream on
+unfoldable pub each-from : (piece : List ℕ → Green → List ℕ) → List (List ℕ) → (k : ℕ) → (ℕ → Green) → List ℕ
+each-from piece [] k plan = []
+each-from piece (name ∷ names) k plan = piece name (plan k) ++ each-from piece names (k + 1) plan
+
+-- the streams and their greens, one after the other
+abbrev pub streams-words : List (List ℕ) → (ℕ → Green) → List ℕ
+streams-words names plan = each-from stream-words names 0 plan
 
 -- what the plan has to spare, and the line's end: `spare 1`
 abbrev pub spare-words : ℕ → List ℕ
@@ -37,7 +41,7 @@ title-words (Some name) = name ++ codes ": "
 
 -- the answer for a junction with a plan: `bridge: north 0 to 4, east 6 to 9, spare 1`
 abbrev pub answer-line : (title : Option (List ℕ)) (names : List (List ℕ)) (plan : ℕ → Green) (spare : ℕ) → List ℕ
-answer-line title names plan spare = title-words title ++ (streams-words names 0 plan ++ spare-words spare)
+answer-line title names plan spare = title-words title ++ (streams-words names plan ++ spare-words spare)
 
 -- the answer for a junction without one: `bridge: none`
 abbrev pub none-line : (title : Option (List ℕ)) → List ℕ

@@ -5,3 +5,4 @@ pub mod Sections
 pub mod Numbers
 pub mod Answers
 pub mod Printed
+pub mod Rings

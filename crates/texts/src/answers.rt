@@ -48,7 +48,7 @@ fn put_streams(
     names: &[&[u8]],
     plan: &Plan,
 ) -> Result<(), AllocError>
-    ensures { λ r. ⌜ made r (λ _. Adds (vec-items (now (out .entry))) (vec-items (now (out .exit))) (streams-words (map told (now (names .entry))) 0 (green-of (now (plan .entry) .greens)))) ⌝ }
+    ensures { λ r. ⌜ made r (λ _. Adds (vec-items (now (out .entry))) (vec-items (now (out .exit))) (streams-words (map told (now (names .entry))) (green-of (now (plan .entry) .greens)))) ⌝ }
 {
     for k in 0..names.len() {
         put_stream(heap, out, names[k], plan.green(k))?;

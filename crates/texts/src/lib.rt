@@ -5,6 +5,7 @@ mod numbers;
 mod printing;
 mod readers;
 mod reading;
+mod rings;
 mod saying;
 mod sections;
 mod taking;
