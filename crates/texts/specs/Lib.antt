@@ -5,4 +5,5 @@ pub mod Sections
 pub mod Numbers
 pub mod Answers
 pub mod Printed
+pub mod Refused
 pub mod Rings

@@ -6,3 +6,8 @@ use Prim.Native.Nat.{ℕ}
 -- after is what was there before, and then these bytes
 pub record Adds (before after bytes : List ℕ) : Type 0 where
   pub is : after ≡ before ++ bytes
+
+-- after is what was there before, and then something
+pub record Grows (before after : List ℕ) : Type 0 where
+  pub rest : List ℕ
+  pub is : after ≡ before ++ rest

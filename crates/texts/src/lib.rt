@@ -8,5 +8,13 @@ mod reading;
 mod rings;
 mod saying;
 mod sections;
+mod sentences;
 mod taking;
 mod wording;
+
+pub use answers::put_answer;
+pub use answers::put_none;
+pub use readers::Reader;
+pub use rings::put_rings;
+pub use sections::Section;
+pub use sentences::put_refusal;
