@@ -4,3 +4,4 @@ pub mod Rooms
 pub mod Steps
 pub mod Searches
 pub mod Opening
+pub mod Crowds
