@@ -42,9 +42,12 @@ ordered-like n c m d gap other start count cycle same o = record {
 module _ (g : Setting) (q : Gaps) (s : Bounds) (m : Measured (task-of g) q) (op : Open g s) where
   pub nowhere : Nobody q s → (start : ℕ → ℕ) → Placed (task-of g) start → ⊥
   nowhere none start p =
+      let o =
+      ordered-like (g .count) (g .cycle .seconds) (q .count) (q .cycle .seconds) (gap-of (task-of g)) (gap-at q) start (sym (m .count)) (sym (m .cycle))
+      (λ a ha b hb. sym (m .gaps a (omega (arith, g .few)) b (omega (arith, g .few)))) (placed-out (task-of g) start p)
+      in
       none start
-      (ordered-like (g .count) (g .cycle .seconds) (q .count) (q .cycle .seconds) (gap-of (task-of g)) (gap-at q) start (sym (m .count)) (sym (m .cycle))
-      (λ a ha b hb. sym (m .gaps a (omega (arith, g .few)) b (omega (arith, g .few)))) (placed-out (task-of g) start p))
+      (record { begins = λ k h. omega (arith, m .cycle, p .begins k (omega (arith, m .count))); first = o .first; round = o .round })
       (record {
         low = λ k h. let k2 : k < g .count = omega (arith, m .count) in rw (op .low) (p .window k k2 .0);
         high = λ k h.

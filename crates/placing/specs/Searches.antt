@@ -8,7 +8,8 @@ use Rattle.placing.specs.declared.answers.Starts.{Starts}
 use Rattle.placing.specs.declared.room.Bounds.{Bounds}
 use Rattle.placing.specs.declared.spacing.Gaps.{Gaps}
 use Rattle.placing.specs.declared.settings.Setting.{Setting}
-use Rattle.placing.specs.Gaps.{gap-at, InOrder}
+use Rattle.placing.specs.Gaps.{gap-at}
+use Rattle.placing.specs.Orders.{Ordered}
 use Rattle.placing.specs.Bounds.{Obeys, low-of, high-of, room-of}
 
 -- a put before b: who obeys and has a first obeys still, and the other way round; where b's low bound was too early for that there is less room
@@ -27,7 +28,7 @@ start-of r k = getD (r .at) k 0
 
 -- starts found: they are in order and obey the bounds
 pub record Found (q : Gaps) (s : Bounds) (start : ℕ → ℕ) : Type 0 where
-  pub ordered : InOrder q start
+  pub ordered : Ordered (q .count) (q .cycle .seconds) (gap-at q) start
   pub obeys : Obeys q s start
 
 -- the bounds that a search begins with: the window of each green, as far as it is in the cycle, and nothing put before anything

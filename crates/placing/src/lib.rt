@@ -1,6 +1,7 @@
 // Starts for greens of given lengths: which keep all that crosses apart, or that there are none. Which lengths is left to the layers above.
 mod answers;
 mod clashing;
+mod knowing;
 mod measuring;
 mod moving;
 mod narrowing;
