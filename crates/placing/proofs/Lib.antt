@@ -5,3 +5,4 @@ pub mod Steps
 pub mod Searches
 pub mod Opening
 pub mod Crowds
+pub mod Sharing

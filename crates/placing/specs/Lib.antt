@@ -1,5 +1,6 @@
 pub mod Bounds
 pub mod Clashes
+pub mod Crowds
 pub mod Gaps
 pub mod Orders
 pub mod Searches

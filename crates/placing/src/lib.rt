@@ -1,6 +1,7 @@
 // Starts for greens of given lengths: which keep all that crosses apart, or that there are none. Which lengths is left to the layers above.
 mod answers;
 mod clashing;
+mod crowding;
 mod knowing;
 mod measuring;
 mod moving;
@@ -9,6 +10,7 @@ mod placed;
 mod room;
 mod searching;
 mod settings;
+mod shares;
 mod spacing;
 
 pub use answers::Starts;
