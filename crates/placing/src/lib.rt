@@ -2,6 +2,7 @@
 mod answers;
 mod clashing;
 mod crowding;
+mod grouping;
 mod knowing;
 mod measuring;
 mod moving;

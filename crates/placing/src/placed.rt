@@ -5,6 +5,7 @@ ghost use Rattle.placing.specs.Searches.{Open, start-of};
 ghost use Rattle.placing.specs.Settings.{task-of};
 ghost use Rattle.placing.specs.Starts.{Placed};
 use crate::answers::Starts;
+use crate::grouping::largest;
 use crate::measuring::measure;
 use crate::room::Bounds;
 use crate::searching::search;
@@ -31,5 +32,7 @@ pub fn place(setting: &Setting) -> Option<Starts>
     ensures { λ r. ⌜ Cases r ((start : ℕ → ℕ) → Placed (task-of (now (setting .entry))) start → ⊥) (λ s. Placed (task-of (now (setting .entry))) (start-of s)) ⌝ }
 {
     let gaps = measure(setting);
-    search(&gaps, open(setting))
+    let bounds = open(setting);
+    let group = largest(&gaps, &bounds);
+    search(&gaps, &group, bounds)
 }
