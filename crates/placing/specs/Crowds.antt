@@ -12,6 +12,7 @@ use Rattle.placing.specs.declared.shares.Spans.{Spans}
 use Rattle.placing.specs.declared.spacing.Gaps.{Gaps}
 use Rattle.placing.specs.Gaps.{gap-at, InOrder}
 use Rattle.placing.specs.Bounds.{Obeys, Nobody}
+use Rattle.placing.specs.Sizes.{most-greens}
 
 -- by so much at least a begins before b, or before b's next turn if b comes first; by nothing for two that aren't tied
 pub record Span (q : Gaps) (s : Bounds) (a b span : ℕ) : Type 0 where
@@ -20,7 +21,7 @@ pub record Span (q : Gaps) (s : Bounds) (a b span : ℕ) : Type 0 where
 
 -- the span in row a, column b
 abbrev pub span-at : Spans → ℕ → ℕ → ℕ
-span-at d a b = getD (d .span) (a * 12 + b) 0
+span-at d a b = getD (d .span) (a * most-greens + b) 0
 
 abbrev pub Spread : Gaps → Bounds → Spans → Type 0
 Spread q s d = (a : ℕ) → a < q .count → (b : ℕ) → b < q .count → Span q s a b (span-at d a b)

@@ -6,10 +6,11 @@ use lib.ListN.{getD}
 use Rattle.placing.specs.declared.spacing.Gaps.{Gaps}
 use Rattle.placing.specs.Starts.{Task}
 use Rattle.placing.specs.Orders.{gap-of}
+use Rattle.placing.specs.Sizes.{most-greens}
 
 -- the gap in row a, column b
 abbrev pub gap-at : Gaps → ℕ → ℕ → ℕ
-gap-at q a b = getD (q .gap) (a * 12 + b) 0
+gap-at q a b = getD (q .gap) (a * most-greens + b) 0
 
 -- starts are in order with these gaps: each is in the cycle, of any two one comes first by its gap, and each comes by its gap before the other's next turn
 pub record InOrder (q : Gaps) (start : ℕ → ℕ) : Type 0 where
@@ -21,4 +22,4 @@ pub record InOrder (q : Gaps) (start : ℕ → ℕ) : Type 0 where
 pub record Measured (t : Task) (q : Gaps) : Type 0 where
   pub count : q .count ≡ t .count
   pub cycle : q .cycle .seconds ≡ t .cycle
-  pub gaps : (a : ℕ) → a < 12 → (b : ℕ) → b < 12 → gap-at q a b ≡ gap-of t a b
+  pub gaps : (a : ℕ) → a < most-greens → (b : ℕ) → b < most-greens → gap-at q a b ≡ gap-of t a b

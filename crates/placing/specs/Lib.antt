@@ -5,5 +5,6 @@ pub mod Gaps
 pub mod Orders
 pub mod Searches
 pub mod Settings
+pub mod Sizes
 pub mod Starts
 pub mod Steps

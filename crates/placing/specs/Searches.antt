@@ -11,6 +11,7 @@ use Rattle.placing.specs.declared.settings.Setting.{Setting}
 use Rattle.placing.specs.Gaps.{gap-at}
 use Rattle.placing.specs.Orders.{Ordered}
 use Rattle.placing.specs.Bounds.{Obeys, low-of, high-of, room-of}
+use Rattle.placing.specs.Sizes.{most-greens}
 
 -- a put before b: who obeys and has a first obeys still, and the other way round; where b's low bound was too early for that there is less room
 pub record Put (q : Gaps) (s t : Bounds) (a b : ℕ) : Type 0 where
@@ -34,5 +35,5 @@ pub record Found (q : Gaps) (s : Bounds) (start : ℕ → ℕ) : Type 0 where
 -- the bounds that a search begins with: the window of each green, as far as it is in the cycle, and nothing put before anything
 pub record Open (g : Setting) (s : Bounds) : Type 0 where
   pub low : s .low ≡ g .lowest
-  pub high : (k : ℕ) → k < 12 → high-of s k ≡ min (getD (g .highest) k 0) (g .cycle .seconds - 1)
+  pub high : (k : ℕ) → k < most-greens → high-of s k ≡ min (getD (g .highest) k 0) (g .cycle .seconds - 1)
   pub before : (p : ℕ) → getD (s .before) p false ≡ false

@@ -2,11 +2,14 @@
 ghost use Prim.Native.Nat.{_+_, _<_, _≤_};
 ghost use Rattle.crossing.specs.Below.{sum-to};
 ghost use Rattle.placing.specs.Crowds.{Span, Spread, After, Afters, Ahead, Aheads, Crowding, margin-of};
+ghost use Rattle.placing.specs.Sizes.{most-greens};
 use crate::knowing::comes_first;
 use crate::room::Bounds;
 use crate::shares::Group;
 use crate::shares::Margins;
 use crate::shares::Spans;
+use crate::sizes::MOST;
+use crate::sizes::PAIRS;
 use crate::spacing::Gaps;
 
 // By how much one green begins before another, or before its next turn, as far as the bounds tell.
@@ -14,7 +17,7 @@ fn span(gaps: &Gaps, bounds: &Bounds, one: usize, other: usize) -> u32
     requires { ⌜ one < now gaps .count ⌝ ∗ ⌜ other < now gaps .count ⌝ }
     ensures { λ r. ⌜ Span (now (gaps .entry)) (now (bounds .entry)) one other r ⌝ }
 {
-    let gap = gaps.gap[one * 12 + other] as u32;
+    let gap = gaps.gap[one * MOST + other] as u32;
     let low = bounds.low[other] as u32;
     let high = bounds.high[one] as u32;
     if gap == 0 {
@@ -32,24 +35,24 @@ fn span(gaps: &Gaps, bounds: &Bounds, one: usize, other: usize) -> u32
 fn spread(gaps: &Gaps, bounds: &Bounds) -> Spans
     ensures { λ r. ⌜ Spread (now (gaps .entry)) (now (bounds .entry)) r ⌝ }
 {
-    let mut spans = [0; 144];
-    for place in 0..gaps.count * 12 {
-        let other = place % 12;
+    let mut spans = [0; PAIRS];
+    for place in 0..gaps.count * MOST {
+        let other = place % MOST;
         if other < gaps.count {
-            spans[place] = span(gaps, bounds, place / 12, other);
+            spans[place] = span(gaps, bounds, place / MOST, other);
         }
     }
     Spans { span: spans }
 }
 
 fn after(gaps: &Gaps, spans: &Spans, group: &Group, one: usize) -> u32
-    requires { ⌜ one < 12 ⌝ }
+    requires { ⌜ one < most-greens ⌝ }
     ensures { λ r. ⌜ After (now (gaps .entry)) (now (spans .entry)) (now (group .entry)) one r ⌝ }
 {
     let mut room = gaps.cycle.seconds() as u32;
     for other in 0..gaps.count {
         if group.member[other] && other != one {
-            room = room.min(spans.span[one * 12 + other]);
+            room = room.min(spans.span[one * MOST + other]);
         }
     }
     room
@@ -58,7 +61,7 @@ fn after(gaps: &Gaps, spans: &Spans, group: &Group, one: usize) -> u32
 fn afters(gaps: &Gaps, spans: &Spans, group: &Group) -> Margins
     ensures { λ r. ⌜ Afters (now (gaps .entry)) (now (spans .entry)) (now (group .entry)) r ⌝ }
 {
-    let mut out = [0; 12];
+    let mut out = [0; MOST];
     for one in 0..gaps.count {
         if group.member[one] {
             out[one] = after(gaps, spans, group, one);
@@ -68,13 +71,13 @@ fn afters(gaps: &Gaps, spans: &Spans, group: &Group) -> Margins
 }
 
 fn ahead(gaps: &Gaps, spans: &Spans, group: &Group, out: &Margins, other: usize) -> u32
-    requires { ⌜ other < 12 ⌝ }
+    requires { ⌜ other < most-greens ⌝ }
     ensures { λ r. ⌜ Ahead (now (gaps .entry)) (now (spans .entry)) (now (group .entry)) (now (out .entry)) other r ⌝ }
 {
     let mut room = (gaps.cycle.seconds() as u32).saturating_sub(out.of[other]);
     for one in 0..gaps.count {
         if group.member[one] && one != other {
-            room = room.min(spans.span[one * 12 + other].saturating_sub(out.of[one]));
+            room = room.min(spans.span[one * MOST + other].saturating_sub(out.of[one]));
         }
     }
     room
@@ -83,7 +86,7 @@ fn ahead(gaps: &Gaps, spans: &Spans, group: &Group, out: &Margins, other: usize)
 fn aheads(gaps: &Gaps, spans: &Spans, group: &Group, out: &Margins) -> Margins
     ensures { λ r. ⌜ Aheads (now (gaps .entry)) (now (spans .entry)) (now (group .entry)) (now (out .entry)) r ⌝ }
 {
-    let mut into = [0; 12];
+    let mut into = [0; MOST];
     for other in 0..gaps.count {
         if group.member[other] {
             into[other] = ahead(gaps, spans, group, out, other);

@@ -1,15 +1,17 @@
 // Which greens to count as a crowd: any will do, so nothing is promised; those that are all tied and take most of the cycle tell most.
 ghost use Prim.Native.Nat.{_<_};
+ghost use Rattle.placing.specs.Sizes.{most-greens};
 use crate::crowding::crowd;
 use crate::room::Bounds;
 use crate::shares::Group;
+use crate::sizes::MOST;
 use crate::spacing::Gaps;
 
 fn tied_to_all(gaps: &Gaps, group: &Group, green: usize) -> bool
-    requires { ⌜ green < 12 ⌝ }
+    requires { ⌜ green < most-greens ⌝ }
 {
     for other in 0..gaps.count {
-        if group.member[other] && gaps.gap[green * 12 + other] == 0 {
+        if group.member[other] && gaps.gap[green * MOST + other] == 0 {
             return false;
         }
     }
@@ -18,12 +20,12 @@ fn tied_to_all(gaps: &Gaps, group: &Group, green: usize) -> bool
 
 fn empty() -> Group {
     Group {
-        member: [false; 12],
+        member: [false; MOST],
     }
 }
 
 fn with(group: Group, green: usize) -> Group
-    requires { ⌜ green < 12 ⌝ }
+    requires { ⌜ green < most-greens ⌝ }
 {
     let mut member = group.member;
     member[green] = true;
@@ -32,7 +34,7 @@ fn with(group: Group, green: usize) -> Group
 
 // A green and, one after the other, all that are tied to it and to those before.
 fn grow(gaps: &Gaps, seed: usize) -> Group
-    requires { ⌜ seed < 12 ⌝ }
+    requires { ⌜ seed < most-greens ⌝ }
 {
     let mut group = with(empty(), seed);
     for green in 0..gaps.count {

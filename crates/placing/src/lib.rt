@@ -12,8 +12,10 @@ mod room;
 mod searching;
 mod settings;
 mod shares;
+mod sizes;
 mod spacing;
 
 pub use answers::Starts;
 pub use placed::place;
 pub use settings::Setting;
+pub use sizes::MOST;

@@ -7,6 +7,7 @@ use crate::knowing::comes_first;
 use crate::moving::lower;
 use crate::moving::raise;
 use crate::room::Bounds;
+use crate::sizes::MOST;
 use crate::spacing::Gaps;
 
 // By how much the first has to begin before the second's next turn.
@@ -14,7 +15,7 @@ fn distance(gaps: &Gaps, bounds: &Bounds, first: usize, second: usize) -> u32
     requires { ⌜ first < now gaps .count ⌝ ∗ ⌜ second < now gaps .count ⌝ }
     ensures { λ r. ⌜ Far (now (gaps .entry)) (now (bounds .entry)) first second r ⌝ }
 {
-    let gap = gaps.gap[first * 12 + second] as u32;
+    let gap = gaps.gap[first * MOST + second] as u32;
     if comes_first(gaps, bounds, first, second) {
         gap + gaps.cycle.seconds() as u32
     } else {

@@ -10,20 +10,22 @@ use crate::measuring::measure;
 use crate::room::Bounds;
 use crate::searching::search;
 use crate::settings::Setting;
+use crate::sizes::MOST;
+use crate::sizes::PAIRS;
 
 // The bounds that a search begins with.
 fn open(setting: &Setting) -> Bounds
     ensures { λ r. ⌜ Open (now (setting .entry)) r ⌝ }
 {
     let last = setting.cycle.seconds() - 1;
-    let mut high = [0; 12];
-    for green in 0..12 {
+    let mut high = [0; MOST];
+    for green in 0..MOST {
         high[green] = setting.highest[green].min(last);
     }
     Bounds {
         low: setting.lowest,
         high,
-        before: [false; 144],
+        before: [false; PAIRS],
     }
 }
 

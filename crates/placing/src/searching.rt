@@ -10,6 +10,7 @@ use crate::moving::raise;
 use crate::narrowing::narrow;
 use crate::room::Bounds;
 use crate::shares::Group;
+use crate::sizes::MOST;
 use crate::spacing::Gaps;
 
 // The same bounds with a green put before another; none where it can't be.
@@ -18,9 +19,9 @@ fn put_before(gaps: &Gaps, bounds: Bounds, first: usize, second: usize) -> Optio
     ensures { λ r. ⌜ Cases r (NotFirst (now (gaps .entry)) bounds first second) (λ t. Put (now (gaps .entry)) bounds t first second) ⌝ }
 {
     let mut put = bounds;
-    let earliest = put.low[first] as u32 + gaps.gap[first * 12 + second] as u32;
+    let earliest = put.low[first] as u32 + gaps.gap[first * MOST + second] as u32;
     let _moved = raise(&mut put, second, earliest)?;
-    put.before[first * 12 + second] = true;
+    put.before[first * MOST + second] = true;
     Some(put)
 }
 
