@@ -4,15 +4,14 @@ use mathlib.Core.Bool.{Bool, true, false, cond}
 use mathlib.Core.Logic.{_⊎_, inl, inr, ⊎-elim}
 use Prim.Native.Nat.{ℕ, zero, suc, _+_, _-_, _≤_, _<_}
 use native.Mathlib.Omega.{arith}
-use lib.Dec.{ltb, leb}
-use Rattle.std.proofs.shelf.Tests.{cases-bool, cases-eq, cases-lt, cond-both, ltb-true, leb-true, leb-false}
+use lib.Dec.{leb}
+use Rattle.std.proofs.shelf.Tests.{cases-bool, cases-lt, ltb-true, leb-true, leb-false}
 use Rattle.greens.specs.declared.lights.Green.{Green}
 use Rattle.greens.specs.Circle.{after}
 use Rattle.greens.specs.Greens.{on, count-to}
 use Rattle.greens.proofs.Counts.{as-long}
 use Rattle.crossing.specs.Below.{sum-to}
 use Rattle.crossing.proofs.Good.{apart-out}
-use Rattle.placing.specs.Orders.{Ordered}
 use Rattle.placing.proofs.Bridge.{Keeps, keeps-in, off-in}
 
 count-zero : (n : ℕ) (test : ℕ → Bool) → ((k : ℕ) → k < n → test k ≡ false) → count-to n test ≡ 0

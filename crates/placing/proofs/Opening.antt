@@ -1,16 +1,15 @@
 -- From a setting to the bounds that a search begins with, and from what the search says back to the setting.
 use mathlib.Core.Path.{_≡_, refl, sym}
-use mathlib.Core.Bool.{Bool, true, false}
-use mathlib.Core.Logic.{_⊎_, inl, inr, ⊎-elim}
-use Prim.Native.Nat.{ℕ, zero, suc, _+_, _-_, _≤_, _<_, min}
+use mathlib.Core.Bool.{false}
+use Prim.Native.Nat.{ℕ, zero, suc, _-_, _<_}
 use native.Mathlib.Omega.{arith}
 use lib.ListN.{getD, replicate}
 use Rattle.std.proofs.shelf.Tests.{both-ways}
 use Rattle.placing.specs.declared.room.Bounds.{Bounds}
 use Rattle.placing.specs.declared.spacing.Gaps.{Gaps}
 use Rattle.placing.specs.declared.settings.Setting.{Setting}
-use Rattle.placing.specs.Bounds.{Obeys, Nobody, low-of, high-of, before-of}
-use Rattle.placing.specs.Gaps.{gap-at, InOrder, Measured}
+use Rattle.placing.specs.Bounds.{Nobody, before-of}
+use Rattle.placing.specs.Gaps.{gap-at, Measured}
 use Rattle.placing.specs.Orders.{Ordered, gap-of}
 use Rattle.placing.specs.Searches.{Open, Found}
 use Rattle.placing.specs.Settings.{task-of}

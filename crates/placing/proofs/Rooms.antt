@@ -1,16 +1,16 @@
 -- What moving a bound does to the room that is left, and to who obeys.
-use mathlib.Core.Path.{_≡_, refl, sym}
+use mathlib.Core.Path.{_≡_, refl}
 use mathlib.Core.Bool.{Bool, true, false}
 use mathlib.Core.List.{List, [], _∷_}
-use mathlib.Core.Logic.{_⊎_, _≢_, inl, inr, ⊎-elim}
-use Prim.Native.Nat.{ℕ, zero, suc, _+_, _-_, _*_, _≤_, _<_}
+use mathlib.Core.Logic.{_⊎_, inl, inr, ⊎-elim}
+use Prim.Native.Nat.{ℕ, zero, suc, _-_, _≤_, _<_}
 use native.Mathlib.Omega.{arith}
 use lib.ListN.{length, getD, set}
 use lib.Seq.{getD-set-same, getD-set-other}
 use Rattle.std.proofs.shelf.Tests.{cases-eq, cases-bool}
 use Rattle.placing.specs.declared.room.Bounds.{Bounds}
 use Rattle.placing.specs.declared.spacing.Gaps.{Gaps}
-use Rattle.placing.specs.Bounds.{Obeys, Raised, Lowered, room, room-of, low-of, high-of, before-of}
+use Rattle.placing.specs.Bounds.{Obeys, Raised, Lowered, room, room-of, low-of, high-of}
 use Rattle.placing.specs.Sizes.{most-greens}
 
 room-raise : (low high : List ℕ) (k to : ℕ) → k < length low → getD low k 0 < to → to ≤ getD high k 0 → room (set low k to) high < room low high

@@ -1,17 +1,16 @@
 -- One green put before another, and low bounds that are starts.
-use mathlib.Core.Path.{_≡_, refl, sym}
+use mathlib.Core.Path.{_≡_}
 use mathlib.Core.Bool.{Bool, true, false}
-use mathlib.Core.List.{List}
-use mathlib.Core.Logic.{_⊎_, _≢_, inl, inr, ⊎-elim}
+use mathlib.Core.Logic.{_⊎_, inl, inr, ⊎-elim}
 use Prim.Native.Nat.{ℕ, _+_, _*_, _≤_, _<_}
 use native.Mathlib.Omega.{arith}
-use lib.ListN.{length, getD, set}
+use lib.ListN.{getD, set}
 use lib.Seq.{getD-set-same, getD-set-other}
 use Rattle.std.proofs.shelf.Tests.{cases-eq, cases-lt, cases-bool}
 use Rattle.placing.specs.declared.room.Bounds.{Bounds}
 use Rattle.placing.specs.declared.spacing.Gaps.{Gaps}
-use Rattle.placing.specs.Gaps.{gap-at, InOrder}
-use Rattle.placing.specs.Bounds.{Obeys, Raised, low-of, high-of, before-of, room-of}
+use Rattle.placing.specs.Gaps.{gap-at}
+use Rattle.placing.specs.Bounds.{Obeys, Raised, low-of, before-of}
 use Rattle.placing.specs.Clashes.{OneFirst}
 use Rattle.placing.specs.Steps.{Narrowed}
 use Rattle.placing.specs.Searches.{Put, Found}

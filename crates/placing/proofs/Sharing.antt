@@ -1,6 +1,6 @@
 -- A group that takes more than the cycle leaves nobody who obeys.
-use mathlib.Core.Path.{_≡_, refl, sym}
-use mathlib.Core.Bool.{Bool, true, false}
+use mathlib.Core.Path.{_≡_, sym}
+use mathlib.Core.Bool.{true, false}
 use mathlib.Core.Logic.{_⊎_, inl, inr, ⊎-elim}
 use Prim.Native.Nat.{ℕ, _+_, _-_, _≤_, _<_}
 use native.Mathlib.Omega.{arith}
@@ -12,9 +12,8 @@ use Rattle.placing.specs.declared.shares.Group.{Group}
 use Rattle.placing.specs.declared.shares.Margins.{Margins}
 use Rattle.placing.specs.declared.shares.Spans.{Spans}
 use Rattle.placing.specs.declared.spacing.Gaps.{Gaps}
-use Rattle.placing.specs.Gaps.{gap-at, InOrder}
-use Rattle.placing.specs.Bounds.{Obeys, Nobody}
-use Rattle.placing.specs.Crowds.{Span, Spread, After, Afters, Ahead, Aheads, Crowding, span-at, member-of, margin-of}
+use Rattle.placing.specs.Gaps.{gap-at}
+use Rattle.placing.specs.Crowds.{Spread, Afters, Aheads, Crowding, span-at, member-of, margin-of}
 use Rattle.placing.proofs.Crowds.{Crowd, crowd-shares}
 
 pub sum-more : (n : ℕ) (figure : ℕ → ℕ) → sum-to (n + 1) figure ≡ sum-to n figure + figure n

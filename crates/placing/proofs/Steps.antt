@@ -1,15 +1,15 @@
 -- Steps of narrowing, one after the other.
-use mathlib.Core.Path.{_≡_, refl, sym, _∙_}
+use mathlib.Core.Path.{_≡_, _∙_}
 use mathlib.Core.Bool.{Bool, true, false, _||_}
-use mathlib.Core.Logic.{_⊎_, inl, inr, ⊎-elim}
+use mathlib.Core.Logic.{_⊎_, ⊎-elim}
 use Prim.Native.Nat.{ℕ, _+_, _-_, _≤_, _<_}
 use native.Mathlib.Omega.{arith}
 use Rattle.std.proofs.shelf.Tests.{cases-bool, or-parts, or-cases}
 use Rattle.placing.specs.declared.room.Bounds.{Bounds}
 use Rattle.placing.specs.declared.spacing.Gaps.{Gaps}
-use Rattle.placing.specs.Gaps.{gap-at, InOrder}
-use Rattle.placing.specs.Bounds.{Obeys, Narrower, Raised, Lowered, low-of, high-of, before-of, room-of}
-use Rattle.placing.specs.Steps.{Far, Settled, Step, Met, Round, Narrowed}
+use Rattle.placing.specs.Gaps.{InOrder}
+use Rattle.placing.specs.Bounds.{Obeys, Narrower, Raised, Lowered, low-of, high-of, room-of}
+use Rattle.placing.specs.Steps.{Far, Step, Met, Round, Narrowed}
 use Rattle.placing.proofs.Rooms.{raised-room, raised-keeps, raised-back, lowered-room, lowered-keeps, lowered-back}
 use Rattle.placing.specs.Sizes.{most-greens}
 

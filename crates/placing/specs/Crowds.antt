@@ -4,7 +4,6 @@ use mathlib.Core.Bool.{Bool, true, false}
 use mathlib.Core.Logic.{_⊎_}
 use Prim.Native.Nat.{ℕ, _+_, _-_, _*_, _≤_, _<_}
 use lib.ListN.{getD}
-use Rattle.crossing.specs.Below.{sum-to}
 use Rattle.placing.specs.declared.room.Bounds.{Bounds}
 use Rattle.placing.specs.declared.shares.Group.{Group}
 use Rattle.placing.specs.declared.shares.Margins.{Margins}

@@ -1,7 +1,6 @@
 -- One green put before another, and what a search gives. Assumes nothing: these are definitions.
 use mathlib.Core.Path.{_≡_}
 use mathlib.Core.Bool.{false}
-use mathlib.Core.List.{List}
 use Prim.Native.Nat.{ℕ, _+_, _-_, _≤_, _<_, min}
 use lib.ListN.{getD}
 use Rattle.placing.specs.declared.answers.Starts.{Starts}
