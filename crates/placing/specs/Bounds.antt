@@ -9,10 +9,11 @@ use Rattle.placing.specs.declared.spacing.Gaps.{Gaps}
 use Rattle.placing.specs.Gaps.{gap-at, InOrder}
 use Rattle.placing.specs.Sizes.{most-greens}
 
--- the first and the last second in which a green may begin
+-- the first second in which a green may begin
 abbrev pub low-of : Bounds → ℕ → ℕ
 low-of s k = getD (s .low) k 0
 
+-- and the last
 abbrev pub high-of : Bounds → ℕ → ℕ
 high-of s k = getD (s .high) k 0
 
@@ -41,6 +42,7 @@ room [] high = 0
 room (l ∷ low) [] = 0
 room (l ∷ low) (h ∷ high) = (h - l) + room low high
 
+-- the room of bounds
 abbrev pub room-of : Bounds → ℕ
 room-of s = room (s .low) (s .high)
 

@@ -22,12 +22,15 @@ pub record Span (q : Gaps) (s : Bounds) (a b span : ℕ) : Type 0 where
 abbrev pub span-at : Spans → ℕ → ℕ → ℕ
 span-at d a b = getD (d .span) (a * most-greens + b) 0
 
+-- the spans of any two greens, as far as the bounds tell
 abbrev pub Spread : Gaps → Bounds → Spans → Type 0
 Spread q s d = (a : ℕ) → a < q .count → (b : ℕ) → b < q .count → Span q s a b (span-at d a b)
 
+-- a green is in the group
 abbrev pub member-of : Group → ℕ → Bool
 member-of m k = getD (m .member) k false
 
+-- the room that is a green's own, on one side of it
 abbrev pub margin-of : Margins → ℕ → ℕ
 margin-of m k = getD (m .of) k 0
 

@@ -11,7 +11,7 @@ pub struct Starts {
 }
 
 impl Starts {
-    // The second in which a green begins; 0 past the twelfth.
+    // The second in which a green begins; 0 past the last that there is room for.
     pub fn start(&self, green: usize) -> u8
         ensures { λ r. ⌜ r ≡ getD (now (self .entry) .at) green 0 ⌝ }
     {

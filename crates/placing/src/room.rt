@@ -9,7 +9,7 @@ use crate::sizes::PAIRS;
 pub struct Bounds {
     pub(crate) low: [u8; MOST],
     pub(crate) high: [u8; MOST],
-    // Row by row, twelve each: the row's green comes before the column's.
+    // Row by row: the row's green comes before the column's.
     pub(crate) before: [bool; PAIRS],
     ghost framed: { (length low ≡ most-greens) × (length high ≡ most-greens) },
     ghost sized: { length before ≡ most-pairs },

@@ -15,7 +15,7 @@ pub struct Setting {
     pub(crate) cycle: Cycle,
     pub(crate) count: usize,
     pub(crate) long: [u8; MOST],
-    // Row by row, twelve numbers each: 0 for two that don't cross, else one more than the seconds to clear after the row's before the column's.
+    // Row by row, a number for each green: 0 for two that don't cross, else one more than the seconds to clear after the row's before the column's.
     pub(crate) table: [u8; PAIRS],
     pub(crate) lowest: [u8; MOST],
     pub(crate) highest: [u8; MOST],
@@ -25,7 +25,7 @@ pub struct Setting {
 }
 
 impl Setting {
-    // So many greens of no seconds, none of which cross, each to begin in second 0; none where there are more than twelve.
+    // So many greens of no seconds, none of which cross, each to begin in second 0; none where there are more than there is room for.
     pub fn new(cycle: Cycle, count: usize) -> Option<Setting>
         ensures { λ r. ⌜ Cases r (most-greens < count) (λ s. (s .cycle ≡ cycle) × (s .count ≡ count) × (s .long ≡ replicate most-greens 0) × (s .table ≡ replicate most-pairs 0) × (s .lowest ≡ replicate most-greens 0) × (s .highest ≡ replicate most-greens 0)) ⌝ }
     {

@@ -11,7 +11,7 @@ pub struct Group {
     ghost sized: { length member ≡ most-greens },
 }
 
-// Row by row, twelve numbers each: by how much the row's green begins before the column's, or before its next turn.
+// Row by row, a number for each green: by how much the row's green begins before the column's, or before its next turn.
 #[derive(Clone, Copy)]
 pub struct Spans {
     pub(crate) span: [u32; PAIRS],

@@ -10,7 +10,7 @@ use greens::Cycle;
 pub struct Gaps {
     pub(crate) cycle: Cycle,
     pub(crate) count: usize,
-    // Row by row, twelve numbers each: 0 for two that may be on together.
+    // Row by row, a number for each green: 0 for two that may be on together.
     pub(crate) gap: [u16; PAIRS],
     ghost few: { count ≤ most-greens },
     ghost sized: { length gap ≡ most-pairs },
