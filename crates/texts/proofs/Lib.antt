@@ -1,5 +1,7 @@
 pub mod Figures
 pub mod Seeks
+pub mod Backwards
+pub mod Spelled
 pub mod Rows
 pub mod Puts
 pub mod SameNumbers
