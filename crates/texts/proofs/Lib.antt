@@ -1,5 +1,6 @@
 pub mod Figures
 pub mod Seeks
+pub mod Named
 pub mod Backwards
 pub mod Spelled
 pub mod Rows

@@ -48,7 +48,7 @@ word-last [] is = absurd (omega (arith, ltb-true 0 0 (and-parts (ltb 0 0) (lette
 word-last (b ∷ w) is = words-off [] (b ∷ w) (and-parts (ltb 0 (length (b ∷ w))) (letters (b ∷ w)) is .1)
 
 -- a letter more is still a word
-letters-push : (w : List ℕ) (b : ℕ) → letters w ≡ true → letter b ≡ true → letters (w ++ (b ∷ [])) ≡ true
+pub letters-push : (w : List ℕ) (b : ℕ) → letters w ≡ true → letter b ≡ true → letters (w ++ (b ∷ [])) ≡ true
 unfolding letters
 letters-push [] b all one = and-from (letter b) true one refl
 letters-push (c ∷ w) b all one =

@@ -37,7 +37,7 @@ module _ (b : ℕ) (bs word : List ℕ) where
   unfolding words-from
   at-blank h = rw (blank-other b h, h)
 
-  at-hash : eqb b 35 ≡ true → words-from word (b ∷ bs) ≡ ended word
+  pub at-hash : eqb b 35 ≡ true → words-from word (b ∷ bs) ≡ ended word
   unfolding words-from
   at-hash h = rw h
 

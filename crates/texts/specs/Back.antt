@@ -14,6 +14,7 @@ use Rattle.greens.specs.declared.lights.Green.{Green}
 use Rattle.greens.specs.Plans.{noGreen}
 use Rattle.texts.specs.Words.{blank, words, number-in}
 use Rattle.texts.specs.Answers.{answer-line}
+use Rattle.texts.specs.Sections.{Told, told-in}
 
 -- a stream's name and its green
 pub record Shown : Type 0 where
@@ -82,3 +83,15 @@ Read-back =
     (title : Option (List ℕ)) (names : List (List ℕ)) (plan : ℕ → Green) (spare : ℕ) → title-is-word title ≡ true → are-words names ≡ true →
     ((k : ℕ) → (plan k .from < 256) × (plan k .long < 256)) → spare < 256 →
     answer-in (isSome title) (answer-line title names plan spare) ≡ shown-from names 0 plan
+
+-- the names of a junction, and of all junctions, are words
+abbrev pub told-words : Told → Bool
+told-words t = title-is-word (t .name) && are-words (t .said .names)
+
+unfoldable pub all-words : List Told → Bool
+all-words [] = true
+all-words (t ∷ ts) = told-words t && all-words ts
+
+-- so it is in every text: the answers for its junctions can be read back
+abbrev pub Names-are-words : Type 0
+Names-are-words = (text : List ℕ) → all-words (told-in text) ≡ true

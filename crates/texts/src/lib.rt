@@ -2,6 +2,7 @@
 mod answers;
 mod drafts;
 mod laws;
+mod naming;
 mod numbers;
 mod printing;
 mod readers;
@@ -15,6 +16,7 @@ mod wording;
 
 pub use answers::put_answer;
 pub use answers::put_none;
+pub use laws::names_are_words;
 pub use laws::read_back;
 pub use readers::Reader;
 pub use rings::put_rings;
