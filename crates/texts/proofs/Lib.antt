@@ -1,5 +1,8 @@
 pub mod Figures
 pub mod Seeks
+pub mod Named
+pub mod Backwards
+pub mod Spelled
 pub mod Rows
 pub mod Puts
 pub mod SameNumbers

@@ -29,19 +29,19 @@ nothing-more : (word : List ℕ) → ended word ≡ ended (word ++ []) ++ []
 nothing-more word = ap ended (sym (append-nil word)) ∙ sym (append-nil (ended (word ++ [])))
 
 module _ (b : ℕ) (bs word : List ℕ) where
-  at-end : words-from word [] ≡ ended word
+  pub at-end : words-from word [] ≡ ended word
   unfolding words-from
   at-end = refl
 
-  at-blank : blank b ≡ true → words-from word (b ∷ bs) ≡ ended word ++ words bs
+  pub at-blank : blank b ≡ true → words-from word (b ∷ bs) ≡ ended word ++ words bs
   unfolding words-from
   at-blank h = rw (blank-other b h, h)
 
-  at-hash : eqb b 35 ≡ true → words-from word (b ∷ bs) ≡ ended word
+  pub at-hash : eqb b 35 ≡ true → words-from word (b ∷ bs) ≡ ended word
   unfolding words-from
   at-hash h = rw h
 
-  at-letter : blank b ≡ false → eqb b 35 ≡ false → words-from word (b ∷ bs) ≡ words-from (word ++ (b ∷ [])) bs
+  pub at-letter : blank b ≡ false → eqb b 35 ≡ false → words-from word (b ∷ bs) ≡ words-from (word ++ (b ∷ [])) bs
   unfolding words-from
   at-letter h k = rw (k, h)
 

@@ -7,3 +7,4 @@ pub mod Answers
 pub mod Printed
 pub mod Refused
 pub mod Rings
+pub mod Back

@@ -1,6 +1,8 @@
 // Words: junctions read from a text, and plans, rings and refusals printed. Files and arguments are left to the program above.
 mod answers;
 mod drafts;
+mod laws;
+mod naming;
 mod numbers;
 mod printing;
 mod readers;
@@ -14,6 +16,8 @@ mod wording;
 
 pub use answers::put_answer;
 pub use answers::put_none;
+pub use laws::names_are_words;
+pub use laws::read_back;
 pub use readers::Reader;
 pub use rings::put_rings;
 pub use sections::Section;

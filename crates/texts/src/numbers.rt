@@ -1,11 +1,8 @@
 // The numbers of a junction that a text says, read as a junction or refused.
 ghost use mathlib.Core.Path.{_≡_};
-ghost use mathlib.Core.List.{map};
 ghost use Prim.Native.Nat.{_*_, _≤_};
 ghost use lib.ListN.{length};
-ghost use denote.Ref.{now as told};
 ghost use Rattle.std.specs.Of.Vec.{vec-items};
-ghost use Rattle.std.specs.Options.{mapped};
 ghost use Rattle.std.specs.Vec.{made};
 ghost use Rattle.texts.specs.Drafts.{sofar-of};
 ghost use Rattle.texts.specs.Sections.{told-of};
@@ -60,19 +57,6 @@ impl<'a> Draft<'a> {
 }
 
 impl<'a> Section<'a> {
-    pub fn name(&self) -> Option<&'a [u8]>
-        ensures { λ r. ⌜ mapped told r ≡ told-of (now (self .entry)) .name ⌝ }
-    {
-        self.name
-    }
-
-    // The names of its streams.
-    pub fn names(&self) -> &[&'a [u8]]
-        ensures { λ r. ⌜ map told (now r) ≡ told-of (now (self .entry)) .said .names ⌝ }
-    {
-        self.draft.names.as_slice()
-    }
-
     // The junction, or why there is none.
     pub fn junction(&self, heap: Global) -> Result<Result<Junction, Refusal>, AllocError>
         ensures { λ r. ⌜ made r (λ answer. Answered (told-of (now (self .entry))) answer) ⌝ }

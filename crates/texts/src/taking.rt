@@ -105,6 +105,7 @@ impl<'a> Draft<'a> {
             })?;
         Ok(true)
     }
+
     // Two streams by their names.
     fn take_pair(
         &mut self,
