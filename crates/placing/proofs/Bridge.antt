@@ -1,12 +1,10 @@
 -- From seconds to orders and back: greens are placed exactly if they are in order.
-use mathlib.Core.Path.{_≡_, refl}
-use mathlib.Core.Bool.{Bool, true, false, _&&_, _||_, not, cond}
+use mathlib.Core.Path.{_≡_}
+use mathlib.Core.Bool.{true, false}
 use mathlib.Core.Logic.{_⊎_, inl, inr, ⊎-elim}
 use Prim.Native.Nat.{ℕ, _+_, _-_, _≤_, _<_}
 use native.Mathlib.Omega.{arith}
-use lib.Dec.{ltb, leb, eqb}
-use Rattle.std.proofs.shelf.Tests.{ltb-false, cases-lt, lt-ltb, le-ltb}
-use Rattle.std.proofs.shelf.Ways.{tells}
+use Rattle.std.proofs.shelf.Tests.{ltb-false, cases-lt, le-ltb}
 use Rattle.greens.specs.declared.lights.Green.{Green}
 use Rattle.greens.specs.Circle.{after}
 use Rattle.greens.specs.Greens.{on}

@@ -1,14 +1,12 @@
 -- Greens are placed exactly if each begins in the cycle and in its window and they are in order.
-use mathlib.Core.Path.{_≡_, refl}
-use mathlib.Core.Bool.{Bool, true, false, _&&_, _||_, not, cond}
+use mathlib.Core.Path.{_≡_}
+use mathlib.Core.Bool.{true, false, _&&_, _||_, not, cond}
 use mathlib.Core.Logic.{_⊎_, inl, inr, ⊎-elim}
 use Prim.Native.Nat.{ℕ, _+_, _-_, _≤_, _<_}
 use native.Mathlib.Omega.{arith}
-use lib.Dec.{ltb, leb, eqb}
-use Rattle.std.proofs.shelf.Tests.{cases-lt, cases-eq, cases-bool, and-parts, and-from, or-cases, or-left, or-right, not-true, not-from-false, eqb-false, ne-eqb, ltb-true, lt-ltb, both-ways}
+use lib.Dec.{ltb, eqb}
+use Rattle.std.proofs.shelf.Tests.{cases-lt, cases-bool, and-parts, and-from, or-cases, or-left, not-true, not-from-false, eqb-false, ne-eqb, ltb-true, lt-ltb, both-ways}
 use Rattle.std.proofs.shelf.Ways.{tells}
-use Rattle.greens.specs.declared.lights.Green.{Green}
-use Rattle.crossing.specs.Good.{apart}
 use Rattle.crossing.proofs.Good.{apart-in}
 use Rattle.placing.specs.Starts.{Task, Placed, green-at}
 use Rattle.placing.specs.Orders.{tied, gap-of, Ordered}

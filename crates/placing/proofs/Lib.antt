@@ -4,3 +4,5 @@ pub mod Rooms
 pub mod Steps
 pub mod Searches
 pub mod Opening
+pub mod Crowds
+pub mod Sharing

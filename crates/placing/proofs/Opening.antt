@@ -1,16 +1,15 @@
 -- From a setting to the bounds that a search begins with, and from what the search says back to the setting.
 use mathlib.Core.Path.{_≡_, refl, sym}
-use mathlib.Core.Bool.{Bool, true, false}
-use mathlib.Core.Logic.{_⊎_, inl, inr, ⊎-elim}
-use Prim.Native.Nat.{ℕ, zero, suc, _+_, _-_, _≤_, _<_, min}
+use mathlib.Core.Bool.{false}
+use Prim.Native.Nat.{ℕ, zero, suc, _-_, _<_}
 use native.Mathlib.Omega.{arith}
 use lib.ListN.{getD, replicate}
 use Rattle.std.proofs.shelf.Tests.{both-ways}
 use Rattle.placing.specs.declared.room.Bounds.{Bounds}
 use Rattle.placing.specs.declared.spacing.Gaps.{Gaps}
 use Rattle.placing.specs.declared.settings.Setting.{Setting}
-use Rattle.placing.specs.Bounds.{Obeys, Nobody, low-of, high-of, before-of}
-use Rattle.placing.specs.Gaps.{gap-at, InOrder, Measured}
+use Rattle.placing.specs.Bounds.{Nobody, before-of}
+use Rattle.placing.specs.Gaps.{gap-at, Measured}
 use Rattle.placing.specs.Orders.{Ordered, gap-of}
 use Rattle.placing.specs.Searches.{Open, Found}
 use Rattle.placing.specs.Settings.{task-of}
@@ -42,9 +41,12 @@ ordered-like n c m d gap other start count cycle same o = record {
 module _ (g : Setting) (q : Gaps) (s : Bounds) (m : Measured (task-of g) q) (op : Open g s) where
   pub nowhere : Nobody q s → (start : ℕ → ℕ) → Placed (task-of g) start → ⊥
   nowhere none start p =
+      let o =
+      ordered-like (g .count) (g .cycle .seconds) (q .count) (q .cycle .seconds) (gap-of (task-of g)) (gap-at q) start (sym (m .count)) (sym (m .cycle))
+      (λ a ha b hb. sym (m .gaps a (omega (arith, g .few)) b (omega (arith, g .few)))) (placed-out (task-of g) start p)
+      in
       none start
-      (ordered-like (g .count) (g .cycle .seconds) (q .count) (q .cycle .seconds) (gap-of (task-of g)) (gap-at q) start (sym (m .count)) (sym (m .cycle))
-      (λ a ha b hb. sym (m .gaps a (omega (arith, g .few)) b (omega (arith, g .few)))) (placed-out (task-of g) start p))
+      (record { begins = λ k h. omega (arith, m .cycle, p .begins k (omega (arith, m .count))); first = o .first; round = o .round })
       (record {
         low = λ k h. let k2 : k < g .count = omega (arith, m .count) in rw (op .low) (p .window k k2 .0);
         high = λ k h.

@@ -1,16 +1,17 @@
 -- What moving a bound does to the room that is left, and to who obeys.
-use mathlib.Core.Path.{_≡_, refl, sym}
+use mathlib.Core.Path.{_≡_, refl}
 use mathlib.Core.Bool.{Bool, true, false}
 use mathlib.Core.List.{List, [], _∷_}
-use mathlib.Core.Logic.{_⊎_, _≢_, inl, inr, ⊎-elim}
-use Prim.Native.Nat.{ℕ, zero, suc, _+_, _-_, _*_, _≤_, _<_}
+use mathlib.Core.Logic.{_⊎_, inl, inr, ⊎-elim}
+use Prim.Native.Nat.{ℕ, zero, suc, _-_, _≤_, _<_}
 use native.Mathlib.Omega.{arith}
 use lib.ListN.{length, getD, set}
 use lib.Seq.{getD-set-same, getD-set-other}
 use Rattle.std.proofs.shelf.Tests.{cases-eq, cases-bool}
 use Rattle.placing.specs.declared.room.Bounds.{Bounds}
 use Rattle.placing.specs.declared.spacing.Gaps.{Gaps}
-use Rattle.placing.specs.Bounds.{Obeys, Raised, Lowered, room, room-of, low-of, high-of, before-of}
+use Rattle.placing.specs.Bounds.{Obeys, Raised, Lowered, room, room-of, low-of, high-of}
+use Rattle.placing.specs.Sizes.{most-greens}
 
 room-raise : (low high : List ℕ) (k to : ℕ) → k < length low → getD low k 0 < to → to ≤ getD high k 0 → room (set low k to) high < room low high
 unfolding room
@@ -34,7 +35,7 @@ set-cases xs k to j within =
     (λ (ne : j ≡ k → ⊥). inr (ne, getD-set-other xs k j to 0 ne))
     (cases-eq j k)
 
-module _ (q : Gaps) (s t : Bounds) (k to : ℕ) (within : k < 12) where
+module _ (q : Gaps) (s t : Bounds) (k to : ℕ) (within : k < most-greens) where
   pub raised-room : Raised s t k to true → room-of t < room-of s
   raised-room r =
       rw (r .low refl, r .same .0) (room-raise (s .low) (s .high) k to (omega (arith, s .framed .0)) (r .fits refl .0) (r .fits refl .1))
@@ -74,7 +75,7 @@ module _ (q : Gaps) (s t : Bounds) (k to : ℕ) (within : k < 12) where
     order = λ a ha b hb h. o .order a ha b hb (rw (r .same .1) h);
   }
 
-module _ (q : Gaps) (s t : Bounds) (k to : ℕ) (within : k < 12) where
+module _ (q : Gaps) (s t : Bounds) (k to : ℕ) (within : k < most-greens) where
   pub lowered-room : Lowered s t k to true → room-of t < room-of s
   lowered-room r =
       rw (r .high refl, r .same .0) (room-lower (s .low) (s .high) k to (omega (arith, s .framed .0)) (r .fits refl .0) (r .fits refl .1))

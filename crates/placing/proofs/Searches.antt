@@ -1,50 +1,50 @@
 -- One green put before another, and low bounds that are starts.
-use mathlib.Core.Path.{_≡_, refl, sym}
+use mathlib.Core.Path.{_≡_}
 use mathlib.Core.Bool.{Bool, true, false}
-use mathlib.Core.List.{List}
-use mathlib.Core.Logic.{_⊎_, _≢_, inl, inr, ⊎-elim}
+use mathlib.Core.Logic.{_⊎_, inl, inr, ⊎-elim}
 use Prim.Native.Nat.{ℕ, _+_, _*_, _≤_, _<_}
 use native.Mathlib.Omega.{arith}
-use lib.ListN.{length, getD, set}
+use lib.ListN.{getD, set}
 use lib.Seq.{getD-set-same, getD-set-other}
 use Rattle.std.proofs.shelf.Tests.{cases-eq, cases-lt, cases-bool}
 use Rattle.placing.specs.declared.room.Bounds.{Bounds}
 use Rattle.placing.specs.declared.spacing.Gaps.{Gaps}
-use Rattle.placing.specs.Gaps.{gap-at, InOrder}
-use Rattle.placing.specs.Bounds.{Obeys, Raised, low-of, high-of, before-of, room-of}
+use Rattle.placing.specs.Gaps.{gap-at}
+use Rattle.placing.specs.Bounds.{Obeys, Raised, low-of, before-of}
 use Rattle.placing.specs.Clashes.{OneFirst}
 use Rattle.placing.specs.Steps.{Narrowed}
 use Rattle.placing.specs.Searches.{Put, Found}
 use Rattle.placing.proofs.Rooms.{raised-room, raised-keeps, raised-back}
+use Rattle.placing.specs.Sizes.{most-greens}
 
 module _ (q : Gaps) (s m t : Bounds) (a b to : ℕ) (ha : a < q .count) (hb : b < q .count) (upward : to ≡ low-of s a + gap-at q a b)
-    (low : t .low ≡ m .low) (high : t .high ≡ m .high) (put : t .before ≡ set (m .before) (a * 12 + b) true) where
+    (low : t .low ≡ m .low) (high : t .high ≡ m .high) (put : t .before ≡ set (m .before) (a * most-greens + b) true) where
   -- what is before what now: a before b, and what was
   put-order :
       (start : ℕ → ℕ) → start a + gap-at q a b ≤ start b → Obeys q m start →
       (x : ℕ) → x < q .count → (y : ℕ) → y < q .count → before-of t x y ≡ true → start x + gap-at q x y ≤ start y
   put-order start first o x hx y hy h =
       ⊎-elim
-      (λ (same : x * 12 + y ≡ a * 12 + b).
+      (λ (same : x * most-greens + y ≡ a * most-greens + b).
       let row : x ≡ a = omega (arith, q .few) in
       let column : y ≡ b = omega (arith, q .few) in
       rw (row, column) first)
-      (λ (other : x * 12 + y ≡ a * 12 + b → ⊥).
-      let h2 : getD (set (m .before) (a * 12 + b) true) (x * 12 + y) false ≡ true = rw put at h in
+      (λ (other : x * most-greens + y ≡ a * most-greens + b → ⊥).
+      let h2 : getD (set (m .before) (a * most-greens + b) true) (x * most-greens + y) false ≡ true = rw put at h in
       o .order x hx y hy (rw getD-set-other at h2))
-      (cases-eq (x * 12 + y) (a * 12 + b))
+      (cases-eq (x * most-greens + y) (a * most-greens + b))
 
   put-kept : (x y : ℕ) → before-of m x y ≡ true → before-of t x y ≡ true
   put-kept x y h =
       rw put (
       ⊎-elim
-      (λ (same : x * 12 + y ≡ a * 12 + b). rw same (getD-set-same (m .before) (a * 12 + b) true false (omega (arith, q .few, m .sized))))
-      (λ (other : x * 12 + y ≡ a * 12 + b → ⊥). rw getD-set-other h)
-      (cases-eq (x * 12 + y) (a * 12 + b)))
+      (λ (same : x * most-greens + y ≡ a * most-greens + b). rw same (getD-set-same (m .before) (a * most-greens + b) true false (omega (arith, q .few, m .sized))))
+      (λ (other : x * most-greens + y ≡ a * most-greens + b → ⊥). rw getD-set-other h)
+      (cases-eq (x * most-greens + y) (a * most-greens + b)))
 
   pub put-from : (moved : Bool) → Raised s m b to moved → Put q s t a b
   put-from moved r =
-      let within : b < 12 = omega (arith, q .few) in
+      let within : b < most-greens = omega (arith, q .few) in
       record {
         keeps = λ start o first.
             let raised = raised-keeps q s m b to within moved r start (omega (arith, o .low a ha)) o in

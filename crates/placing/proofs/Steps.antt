@@ -1,16 +1,17 @@
 -- Steps of narrowing, one after the other.
-use mathlib.Core.Path.{_≡_, refl, sym, _∙_}
+use mathlib.Core.Path.{_≡_, _∙_}
 use mathlib.Core.Bool.{Bool, true, false, _||_}
-use mathlib.Core.Logic.{_⊎_, inl, inr, ⊎-elim}
+use mathlib.Core.Logic.{_⊎_, ⊎-elim}
 use Prim.Native.Nat.{ℕ, _+_, _-_, _≤_, _<_}
 use native.Mathlib.Omega.{arith}
 use Rattle.std.proofs.shelf.Tests.{cases-bool, or-parts, or-cases}
 use Rattle.placing.specs.declared.room.Bounds.{Bounds}
 use Rattle.placing.specs.declared.spacing.Gaps.{Gaps}
-use Rattle.placing.specs.Gaps.{gap-at, InOrder}
-use Rattle.placing.specs.Bounds.{Obeys, Narrower, Raised, Lowered, low-of, high-of, before-of, room-of}
-use Rattle.placing.specs.Steps.{Far, Settled, Step, Met, Round, Narrowed}
+use Rattle.placing.specs.Gaps.{InOrder}
+use Rattle.placing.specs.Bounds.{Obeys, Narrower, Raised, Lowered, low-of, high-of, room-of}
+use Rattle.placing.specs.Steps.{Far, Step, Met, Round, Narrowed}
 use Rattle.placing.proofs.Rooms.{raised-room, raised-keeps, raised-back, lowered-room, lowered-keeps, lowered-back}
+use Rattle.placing.specs.Sizes.{most-greens}
 
 narrower-more : (q : Gaps) (s m t : Bounds) → Narrower q s m → Narrower q m t → Narrower q s t
 narrower-more q s m t x y = record {
@@ -44,7 +45,7 @@ step-more q s m t x y one two =
     }
 
 raised-step :
-    (q : Gaps) (s t : Bounds) (k to : ℕ) (moved : Bool) → k < 12 → Raised s t k to moved →
+    (q : Gaps) (s t : Bounds) (k to : ℕ) (moved : Bool) → k < most-greens → Raised s t k to moved →
     ((start : ℕ → ℕ) → InOrder q start → Obeys q s start → to ≤ start k) → Step q s t moved
 raised-step q s t k to moved within r late = record {
   narrower = record {
@@ -56,7 +57,7 @@ raised-step q s t k to moved within r late = record {
 }
 
 lowered-step :
-    (q : Gaps) (s t : Bounds) (k to : ℕ) (moved : Bool) → k < 12 → Lowered s t k to moved →
+    (q : Gaps) (s t : Bounds) (k to : ℕ) (moved : Bool) → k < most-greens → Lowered s t k to moved →
     ((start : ℕ → ℕ) → InOrder q start → Obeys q s start → start k ≤ to) → Step q s t moved
 lowered-step q s t k to moved within r early = record {
   narrower = record {

@@ -2,12 +2,12 @@
 use mathlib.Core.Path.{_≡_}
 use mathlib.Core.Bool.{Bool, true, false}
 use mathlib.Core.List.{List, [], _∷_}
-use mathlib.Core.Logic.{_⊎_}
 use Prim.Native.Nat.{ℕ, _+_, _-_, _*_, _≤_, _<_}
 use lib.ListN.{getD, set}
 use Rattle.placing.specs.declared.room.Bounds.{Bounds}
 use Rattle.placing.specs.declared.spacing.Gaps.{Gaps}
 use Rattle.placing.specs.Gaps.{gap-at, InOrder}
+use Rattle.placing.specs.Sizes.{most-greens}
 
 -- the first and the last second in which a green may begin
 abbrev pub low-of : Bounds → ℕ → ℕ
@@ -18,7 +18,7 @@ high-of s k = getD (s .high) k 0
 
 -- a has been put before b
 abbrev pub before-of : Bounds → ℕ → ℕ → Bool
-before-of s a b = getD (s .before) (a * 12 + b) false
+before-of s a b = getD (s .before) (a * most-greens + b) false
 
 -- starts obey the bounds: each is within its own, and what has been put before another comes first by its gap
 pub record Obeys (q : Gaps) (s : Bounds) (start : ℕ → ℕ) : Type 0 where

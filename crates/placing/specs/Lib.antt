@@ -1,8 +1,10 @@
 pub mod Bounds
 pub mod Clashes
+pub mod Crowds
 pub mod Gaps
 pub mod Orders
 pub mod Searches
 pub mod Settings
+pub mod Sizes
 pub mod Starts
 pub mod Steps

@@ -1,15 +1,16 @@
 -- One green put before another, and what a search gives. Assumes nothing: these are definitions.
 use mathlib.Core.Path.{_≡_}
 use mathlib.Core.Bool.{false}
-use mathlib.Core.List.{List}
 use Prim.Native.Nat.{ℕ, _+_, _-_, _≤_, _<_, min}
 use lib.ListN.{getD}
 use Rattle.placing.specs.declared.answers.Starts.{Starts}
 use Rattle.placing.specs.declared.room.Bounds.{Bounds}
 use Rattle.placing.specs.declared.spacing.Gaps.{Gaps}
 use Rattle.placing.specs.declared.settings.Setting.{Setting}
-use Rattle.placing.specs.Gaps.{gap-at, InOrder}
+use Rattle.placing.specs.Gaps.{gap-at}
+use Rattle.placing.specs.Orders.{Ordered}
 use Rattle.placing.specs.Bounds.{Obeys, low-of, high-of, room-of}
+use Rattle.placing.specs.Sizes.{most-greens}
 
 -- a put before b: who obeys and has a first obeys still, and the other way round; where b's low bound was too early for that there is less room
 pub record Put (q : Gaps) (s t : Bounds) (a b : ℕ) : Type 0 where
@@ -27,11 +28,11 @@ start-of r k = getD (r .at) k 0
 
 -- starts found: they are in order and obey the bounds
 pub record Found (q : Gaps) (s : Bounds) (start : ℕ → ℕ) : Type 0 where
-  pub ordered : InOrder q start
+  pub ordered : Ordered (q .count) (q .cycle .seconds) (gap-at q) start
   pub obeys : Obeys q s start
 
 -- the bounds that a search begins with: the window of each green, as far as it is in the cycle, and nothing put before anything
 pub record Open (g : Setting) (s : Bounds) : Type 0 where
   pub low : s .low ≡ g .lowest
-  pub high : (k : ℕ) → k < 12 → high-of s k ≡ min (getD (g .highest) k 0) (g .cycle .seconds - 1)
+  pub high : (k : ℕ) → k < most-greens → high-of s k ≡ min (getD (g .highest) k 0) (g .cycle .seconds - 1)
   pub before : (p : ℕ) → getD (s .before) p false ≡ false

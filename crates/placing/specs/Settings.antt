@@ -4,10 +4,11 @@ use lib.Dec.{ltb}
 use lib.ListN.{getD}
 use Rattle.placing.specs.declared.settings.Setting.{Setting}
 use Rattle.placing.specs.Starts.{Task}
+use Rattle.placing.specs.Sizes.{most-greens}
 
 -- the number in row a, column b of a setting's table
 abbrev pub entry-of : Setting → ℕ → ℕ → ℕ
-entry-of s a b = getD (s .table) (a * 12 + b) 0
+entry-of s a b = getD (s .table) (a * most-greens + b) 0
 
 -- the task: two cross where the table has a number, which is one more than the seconds to clear
 abbrev pub task-of : Setting → Task

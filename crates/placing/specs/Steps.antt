@@ -7,6 +7,11 @@ use Rattle.placing.specs.declared.spacing.Gaps.{Gaps}
 use Rattle.placing.specs.Gaps.{gap-at, InOrder}
 use Rattle.placing.specs.Bounds.{Obeys, Narrower, low-of, high-of, before-of, room-of}
 
+-- whether it is known that a comes before b: it is where a was put there, and where the answer is true it holds of all who obey
+pub record Known (q : Gaps) (s : Bounds) (a b : ℕ) (known : Bool) : Type 0 where
+  pub put : before-of s a b ≡ true → known ≡ true
+  pub holds : known ≡ true → (start : ℕ → ℕ) → InOrder q start → Obeys q s start → start a + gap-at q a b ≤ start b
+
 -- by how much a has to begin before b's next turn, as far as the bounds tell: by its gap, and a turn more where it comes first
 pub record Far (q : Gaps) (s : Bounds) (a b far : ℕ) : Type 0 where
   pub gap : gap-at q a b ≤ far

@@ -1,11 +1,13 @@
 // The starts that a search found, one for each green.
 ghost use mathlib.Core.Path.{_≡_};
 ghost use lib.ListN.{length, getD};
+ghost use Rattle.placing.specs.Sizes.{most-greens};
+use crate::sizes::MOST;
 
 #[derive(Clone, Copy)]
 pub struct Starts {
-    pub(crate) at: [u8; 12],
-    ghost sized: { length at ≡ 12 },
+    pub(crate) at: [u8; MOST],
+    ghost sized: { length at ≡ most-greens },
 }
 
 impl Starts {
@@ -13,6 +15,6 @@ impl Starts {
     pub fn start(&self, green: usize) -> u8
         ensures { λ r. ⌜ r ≡ getD (now (self .entry) .at) green 0 ⌝ }
     {
-        if green < 12 { self.at[green] } else { 0 }
+        if green < MOST { self.at[green] } else { 0 }
     }
 }

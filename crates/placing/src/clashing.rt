@@ -6,6 +6,7 @@ ghost use Rattle.std.specs.Options.{Cases};
 ghost use Rattle.std.specs.declared.option.Option.the-variants.{Some, None};
 ghost use Rattle.placing.specs.Clashes.{OneFirst, Clashing};
 use crate::room::Bounds;
+use crate::sizes::MOST;
 use crate::spacing::Gaps;
 
 #[derive(Clone, Copy)]
@@ -23,8 +24,8 @@ fn weigh(gaps: &Gaps, bounds: &Bounds, one: usize, other: usize) -> Option<Clash
 {
     let low = bounds.low[one] as u32;
     let other_low = bounds.low[other] as u32;
-    let there = low + gaps.gap[one * 12 + other] as u32;
-    let back = other_low + gaps.gap[other * 12 + one] as u32;
+    let there = low + gaps.gap[one * MOST + other] as u32;
+    let back = other_low + gaps.gap[other * MOST + one] as u32;
     if there <= other_low || back <= low {
         return None;
     }

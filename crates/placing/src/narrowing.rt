@@ -3,21 +3,20 @@ ghost use Prim.Native.Nat.{_<_};
 ghost use Rattle.std.specs.Options.{Cases};
 ghost use Rattle.placing.specs.Bounds.{Nobody};
 ghost use Rattle.placing.specs.Steps.{Far, Met, Row, Round, Narrowed};
+use crate::knowing::comes_first;
 use crate::moving::lower;
 use crate::moving::raise;
 use crate::room::Bounds;
+use crate::sizes::MOST;
 use crate::spacing::Gaps;
 
-// By how much the first has to begin before the second's next turn. It comes first where it was put there, and where the second can't come first.
+// By how much the first has to begin before the second's next turn.
 fn distance(gaps: &Gaps, bounds: &Bounds, first: usize, second: usize) -> u32
     requires { ⌜ first < now gaps .count ⌝ ∗ ⌜ second < now gaps .count ⌝ }
     ensures { λ r. ⌜ Far (now (gaps .entry)) (now (bounds .entry)) first second r ⌝ }
 {
-    let gap = gaps.gap[first * 12 + second] as u32;
-    let back = gaps.gap[second * 12 + first] as u32;
-    let put = bounds.before[first * 12 + second];
-    let forced = bounds.low[second] as u32 + back > bounds.high[first] as u32;
-    if put | forced {
+    let gap = gaps.gap[first * MOST + second] as u32;
+    if comes_first(gaps, bounds, first, second) {
         gap + gaps.cycle.seconds() as u32
     } else {
         gap

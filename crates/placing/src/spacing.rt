@@ -2,6 +2,8 @@
 ghost use mathlib.Core.Path.{_≡_};
 ghost use Prim.Native.Nat.{_≤_};
 ghost use lib.ListN.{length};
+ghost use Rattle.placing.specs.Sizes.{most-greens, most-pairs};
+use crate::sizes::PAIRS;
 use greens::Cycle;
 
 #[derive(Clone, Copy)]
@@ -9,7 +11,7 @@ pub struct Gaps {
     pub(crate) cycle: Cycle,
     pub(crate) count: usize,
     // Row by row, twelve numbers each: 0 for two that may be on together.
-    pub(crate) gap: [u16; 144],
-    ghost few: { count ≤ 12 },
-    ghost sized: { length gap ≡ 144 },
+    pub(crate) gap: [u16; PAIRS],
+    ghost few: { count ≤ most-greens },
+    ghost sized: { length gap ≡ most-pairs },
 }

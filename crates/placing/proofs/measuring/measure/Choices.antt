@@ -4,6 +4,7 @@ use lib.ListN.{length, getD}
 use Rattle.placing.specs.Orders.{gap-of}
 use Rattle.placing.specs.Settings.{task-of}
 use Rattle.placing.proofs.measuring.measure.Given as given
+use Rattle.placing.specs.Sizes.{most-greens, most-pairs}
 
 abbrev pub Inv-loop-place : given.InvT-loop-place
-Inv-loop-place l = (length (l .gaps) ≡ 144) × ((p : ℕ) → p < l .place → getD (l .gaps) p 0 ≡ gap-of (task-of (l .setting)) (p / 12) (p % 12))
+Inv-loop-place l = (length (l .gaps) ≡ most-pairs) × ((p : ℕ) → p < l .place → getD (l .gaps) p 0 ≡ gap-of (task-of (l .setting)) (p / most-greens) (p % most-greens))

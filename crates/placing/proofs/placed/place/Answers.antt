@@ -17,7 +17,7 @@ pub returns : need.returns
 returns c =
     let setting = c .args .setting .now in
     let gaps = c .measure-gaps .result in
-    let bounds = c .open .result in
+    let bounds = c .open-bounds .result in
     cases-like (c .search .result) (Nobody gaps bounds) ((start : ℕ → ℕ) → Placed (task-of setting) start → ⊥) (λ t. Found gaps bounds (start-of t))
-    (λ t. Placed (task-of setting) (start-of t)) (nowhere setting gaps bounds (c .measure-gaps .ensures) (c .open .ensures))
-    (λ t. somewhere setting gaps bounds (c .measure-gaps .ensures) (c .open .ensures) (start-of t)) (c .search .ensures)
+    (λ t. Placed (task-of setting) (start-of t)) (nowhere setting gaps bounds (c .measure-gaps .ensures) (c .open-bounds .ensures))
+    (λ t. somewhere setting gaps bounds (c .measure-gaps .ensures) (c .open-bounds .ensures) (start-of t)) (c .search .ensures)

@@ -1,5 +1,4 @@
 use mathlib.Core.Path.{refl}
-use native.Mathlib.Omega.{arith}
 use Rattle.placing.proofs.Searches.{put-from}
 use Rattle.placing.proofs.searching.put_before.Needs as need
 

@@ -9,16 +9,17 @@ use lib.ListN.{set, length}
 use Rattle.std.proofs.shelf.Lists.{set-past}
 use Rattle.std.proofs.shelf.Tests.{cond-both, ltb-true}
 use Rattle.placing.proofs.settings.Setting.set_entry.Needs as need
+use Rattle.placing.specs.Sizes.{most-greens, most-pairs}
 
 -- past the twelfth there is nothing to write
-past : (xs : List ℕ) (a b v : ℕ) → length xs ≡ 144 → ((a < 12) × (12 ≤ b)) ⊎ (12 ≤ a) → xs ≡ cond (ltb b 12) (set xs (a * 12 + b) v) xs
+past : (xs : List ℕ) (a b v : ℕ) → length xs ≡ most-pairs → ((a < most-greens) × (most-greens ≤ b)) ⊎ (most-greens ≤ a) → xs ≡ cond (ltb b most-greens) (set xs (a * most-greens + b) v) xs
 past xs a b v all either =
-    cond-both (ltb b 12) (set xs (a * 12 + b) v) xs (λ ys. xs ≡ ys)
-    (λ e. sym (set-past xs (a * 12 + b) v (omega (arith, either, ltb-true b 12 e))))
+    cond-both (ltb b most-greens) (set xs (a * most-greens + b) v) xs (λ ys. xs ≡ ys)
+    (λ e. sym (set-past xs (a * most-greens + b) v (omega (arith, either, ltb-true b most-greens e))))
     (λ e. refl)
 
-pub returns-else-first-lt12 : need.returns-else-first-lt12
-returns-else-first-lt12 c = record {
-  table = past (c .args .self .now .table) (c .args .first) (c .args .second) (c .args .number) (c .args .self .now .sized .1) (c .else-first-lt12 .either);
+pub returns-else-first-lt-MOST : need.returns-else-first-lt-MOST
+returns-else-first-lt-MOST c = record {
+  table = past (c .args .self .now .table) (c .args .first) (c .args .second) (c .args .number) (c .args .self .now .sized .1) (c .else-first-lt-MOST .either);
   same = (refl, refl, refl, refl, refl);
 }

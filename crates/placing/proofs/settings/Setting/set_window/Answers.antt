@@ -3,8 +3,8 @@ use native.Mathlib.Omega.{arith}
 use Rattle.std.proofs.shelf.Lists.{set-past}
 use Rattle.placing.proofs.settings.Setting.set_window.Needs as need
 
-pub returns-else-green-lt12 : need.returns-else-green-lt12
-returns-else-green-lt12 c = record {
+pub returns-else-green-lt-MOST : need.returns-else-green-lt-MOST
+returns-else-green-lt-MOST c = record {
   window = (
     sym (set-past (c .args .self .now .lowest) (c .args .green) (c .args .lowest) (omega arith)),
     sym (set-past (c .args .self .now .highest) (c .args .green) (c .args .highest) (omega arith)),
