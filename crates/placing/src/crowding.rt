@@ -1,6 +1,9 @@
 // The greens of a group share the cycle: room after and before each is its own, and all of it together is no more than the cycle.
+ghost use mathlib.Core.Bool.{true};
+ghost use mathlib.Core.Path.{_≡_};
 ghost use Prim.Native.Nat.{_+_, _<_, _≤_};
 ghost use Rattle.crossing.specs.Below.{sum-to};
+ghost use Rattle.placing.specs.Bounds.{Nobody};
 ghost use Rattle.placing.specs.Crowds.{Span, Spread, After, Afters, Ahead, Aheads, Crowding, margin-of};
 ghost use Rattle.placing.specs.Sizes.{most-greens};
 use crate::knowing::comes_first;
@@ -32,7 +35,7 @@ fn span(gaps: &Gaps, bounds: &Bounds, one: usize, other: usize) -> u32
     gap
 }
 
-fn spread(gaps: &Gaps, bounds: &Bounds) -> Spans
+pub fn spread(gaps: &Gaps, bounds: &Bounds) -> Spans
     ensures { λ r. ⌜ Spread (now (gaps .entry)) (now (bounds .entry)) r ⌝ }
 {
     let mut spans = [0; PAIRS];
@@ -105,12 +108,19 @@ fn total(gaps: &Gaps, out: &Margins, into: &Margins) -> u32
     sum
 }
 
-// How much of the cycle a group takes; where that is more than the cycle, nobody obeys.
-pub fn crowd(gaps: &Gaps, bounds: &Bounds, group: &Group) -> u32
-    ensures { λ r. ⌜ Crowding (now (gaps .entry)) (now (bounds .entry)) r ⌝ }
+// How much of the cycle a group takes, with such spans; where that is more than the cycle, nobody obeys bounds that have them.
+pub fn taken(gaps: &Gaps, spans: &Spans, group: &Group) -> u32
+    ensures { λ r. ⌜ ((s : Bounds) → Spread (now (gaps .entry)) s (now (spans .entry)) → Crowding (now (gaps .entry)) s r) ⌝ }
+{
+    let out = afters(gaps, spans, group);
+    let into = aheads(gaps, spans, group, &out);
+    total(gaps, &out, &into)
+}
+
+// Whether a group takes more than the cycle, so that nobody obeys.
+pub fn crowded(gaps: &Gaps, bounds: &Bounds, group: &Group) -> bool
+    ensures { λ r. ⌜ (r ≡ true → Nobody (now (gaps .entry)) (now (bounds .entry))) ⌝ }
 {
     let spans = spread(gaps, bounds);
-    let out = afters(gaps, &spans, group);
-    let into = aheads(gaps, &spans, group, &out);
-    total(gaps, &out, &into)
+    taken(gaps, &spans, group) > gaps.cycle.seconds() as u32
 }

@@ -1,7 +1,8 @@
 // Which greens to count as a crowd: any will do, so nothing is promised; those that are all tied and take most of the cycle tell most.
 ghost use Prim.Native.Nat.{_<_};
 ghost use Rattle.placing.specs.Sizes.{most-greens};
-use crate::crowding::crowd;
+use crate::crowding::spread;
+use crate::crowding::taken;
 use crate::room::Bounds;
 use crate::shares::Group;
 use crate::sizes::MOST;
@@ -46,13 +47,14 @@ fn grow(gaps: &Gaps, seed: usize) -> Group
 }
 
 pub fn largest(gaps: &Gaps, bounds: &Bounds) -> Group {
+    let spans = spread(gaps, bounds);
     let mut best = empty();
     let mut most = 0;
     for seed in 0..gaps.count {
         let group = grow(gaps, seed);
-        let taken = crowd(gaps, bounds, &group);
-        if taken > most {
-            most = taken;
+        let share = taken(gaps, &spans, &group);
+        if share > most {
+            most = share;
             best = group;
         }
     }

@@ -19,3 +19,6 @@ pub use answers::Starts;
 pub use placed::place;
 pub use settings::Setting;
 pub use sizes::MOST;
+
+#[cfg(test)]
+mod tests;

@@ -5,7 +5,7 @@ ghost use Rattle.placing.specs.Bounds.{Nobody};
 ghost use Rattle.placing.specs.Searches.{Put, NotFirst, Found, start-of};
 use crate::answers::Starts;
 use crate::clashing::tightest;
-use crate::crowding::crowd;
+use crate::crowding::crowded;
 use crate::moving::raise;
 use crate::narrowing::narrow;
 use crate::room::Bounds;
@@ -34,7 +34,7 @@ pub fn search(gaps: &Gaps, group: &Group, bounds: Bounds) -> Option<Starts>
     let Some(clash) = tightest(gaps, &narrowed) else {
         return Some(Starts { at: narrowed.low });
     };
-    if crowd(gaps, &narrowed, group) > gaps.cycle.seconds() as u32 {
+    if crowded(gaps, &narrowed, group) {
         return None;
     }
     if let Some(one) = put_before(gaps, narrowed, clash.first, clash.second) {
