@@ -1,0 +1,11 @@
+pub mod Figures
+pub mod Seeks
+pub mod Rows
+pub mod Puts
+pub mod SameNumbers
+pub mod Taken
+pub mod Tells
+pub mod Says
+pub mod Pushes
+pub mod Fronts
+pub mod Splits

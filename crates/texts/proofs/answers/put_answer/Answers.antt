@@ -1,0 +1,5 @@
+use Rattle.texts.proofs.Puts.{then-put}
+use Rattle.texts.proofs.answers.put_answer.Needs as need
+
+pub returns : need.returns
+returns c = then-put _ _ _ (c .in-Continue-put-title .ensures tt) (then-put _ _ _ (c .in-Continue-put-streams .ensures tt) (c .put-spare .ensures))

@@ -1,0 +1,5 @@
+use Rattle.texts.proofs.Puts.{then-put}
+use Rattle.texts.proofs.answers.put_span.Needs as need
+
+pub returns : need.returns
+returns c = then-put _ _ _ (c .in-Continue-put-number .ensures tt) (then-put _ _ _ (c .in-Continue-put .ensures tt) (c .put-number-2 .ensures))

@@ -1,0 +1,5 @@
+use Rattle.texts.proofs.Puts.{then-put, then-grow, grows}
+use Rattle.texts.proofs.sentences.say_four.Needs as need
+
+pub returns : need.returns
+returns c = then-grow _ _ (c .in-Continue-say-three .ensures tt) (c .say .ensures)

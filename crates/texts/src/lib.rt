@@ -1,0 +1,20 @@
+// Words: junctions read from a text, and plans, rings and refusals printed. Files and arguments are left to the program above.
+mod answers;
+mod drafts;
+mod numbers;
+mod printing;
+mod readers;
+mod reading;
+mod rings;
+mod saying;
+mod sections;
+mod sentences;
+mod taking;
+mod wording;
+
+pub use answers::put_answer;
+pub use answers::put_none;
+pub use readers::Reader;
+pub use rings::put_rings;
+pub use sections::Section;
+pub use sentences::put_refusal;
