@@ -19,6 +19,3 @@ pub use answers::Starts;
 pub use placed::place;
 pub use settings::Setting;
 pub use sizes::MOST;
-
-#[cfg(test)]
-mod tests;

@@ -36,9 +36,10 @@ sofar-none all drawn out left empty is = record { done = []; split = sym is; pri
 pub sofar-more : (all : List Told) (drawn : Bool) (out next : List ℕ) (refused one : Bool) (left rest : List Told) (t : Told) → Sofar all drawn out refused left → left ≡ t ∷ rest →
     Printed t drawn out next one → Sofar all drawn next (refused || one) rest
 sofar-more all drawn out next refused one left rest t before is here = record {
-    done = before .done ++ (t ∷ []);
-    split = before .split ∙ (ap (λ (l : List Told). before .done ++ l) is ∙ sym (append-assoc (before .done) (t ∷ []) rest));
-    printed = all-push (before .done) t drawn [] out next refused one (before .printed) here }
+  done = before .done ++ (t ∷ []);
+  split = before .split ∙ (ap (λ (l : List Told). before .done ++ l) is ∙ sym (append-assoc (before .done) (t ∷ []) rest));
+  printed = all-push (before .done) t drawn [] out next refused one (before .printed) here;
+}
 
 pub sofar-all : (all : List Told) (drawn : Bool) (out : List ℕ) (refused : Bool) (left : List Told) → Sofar all drawn out refused left → left ≡ [] → AllPrinted all drawn [] out refused
 sofar-all all drawn out refused left before is =

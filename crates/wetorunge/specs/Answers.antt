@@ -25,7 +25,7 @@ pub record Planned (t : Told) (drawn : Bool) (j : Junction) (before after : List
   pub is-best : Best (site-of j) (green-of (plan .greens))
   pub spares : spare ≡ worst (site-of j) (green-of (plan .greens))
   pub is : after ≡ before
-    ++ (answer-line (t .name) (t .said .names) (green-of (plan .greens)) spare
+      ++ (answer-line (t .name) (t .said .names) (green-of (plan .greens)) spare
       ++ cond drawn (rings (j .cycle .seconds) (t .said .names) (green-of (plan .greens))) [])
 
 -- or no plan at all is good and lets all go, and `none` is printed

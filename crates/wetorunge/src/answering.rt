@@ -34,7 +34,14 @@ pub struct Answer {
 }
 
 // The rings of a plan, if they are asked for.
-fn put_drawn(heap: Global, out: &mut Vec<u8>, cycle: Cycle, names: &[&[u8]], plan: &Plan, drawn: bool) -> Result<(), AllocError>
+fn put_drawn(
+    heap: Global,
+    out: &mut Vec<u8>,
+    cycle: Cycle,
+    names: &[&[u8]],
+    plan: &Plan,
+    drawn: bool,
+) -> Result<(), AllocError>
     ensures { λ r. ⌜ made r (λ _. Adds (vec-items (now (out .entry))) (vec-items (now (out .exit))) (cond drawn (rings (cycle .seconds) (map told (now (names .entry))) (green-of (now (plan .entry) .greens))) [])) ⌝ }
 {
     if drawn {
@@ -45,16 +52,43 @@ fn put_drawn(heap: Global, out: &mut Vec<u8>, cycle: Cycle, names: &[&[u8]], pla
 }
 
 // The line for a plan that was found, and its rings.
-fn put_found(heap: Global, out: &mut Vec<u8>, section: &Section<'_>, junction: &Junction, found: Found, drawn: bool) -> Result<(), AllocError>
+fn put_found(
+    heap: Global,
+    out: &mut Vec<u8>,
+    section: &Section<'_>,
+    junction: &Junction,
+    found: Found,
+    drawn: bool,
+) -> Result<(), AllocError>
     requires { ⌜ BestFound (site-of (now junction)) (Some found) ⌝ }
     ensures { λ r. ⌜ made r (λ _. Planned (told-of (now (section .entry))) drawn (now (junction .entry)) (vec-items (now (out .entry))) (vec-items (now (out .exit)))) ⌝ }
 {
-    put_answer(heap, out, section.name(), section.names(), &found.plan, found.spare)?;
-    put_drawn(heap, out, junction.cycle(), section.names(), &found.plan, drawn)
+    put_answer(
+        heap,
+        out,
+        section.name(),
+        section.names(),
+        &found.plan,
+        found.spare,
+    )?;
+    put_drawn(
+        heap,
+        out,
+        junction.cycle(),
+        section.names(),
+        &found.plan,
+        drawn,
+    )
 }
 
 // The line for a junction that was taken, and its rings.
-fn put_taken(heap: Global, out: &mut Vec<u8>, section: &Section<'_>, junction: &Junction, drawn: bool) -> Result<(), AllocError>
+fn put_taken(
+    heap: Global,
+    out: &mut Vec<u8>,
+    section: &Section<'_>,
+    junction: &Junction,
+    drawn: bool,
+) -> Result<(), AllocError>
     ensures { λ r. ⌜ made r (λ _. Taken (told-of (now (section .entry))) drawn (now (junction .entry)) (vec-items (now (out .entry))) (vec-items (now (out .exit)))) ⌝ }
 {
     match best(junction) {
@@ -64,7 +98,12 @@ fn put_taken(heap: Global, out: &mut Vec<u8>, section: &Section<'_>, junction: &
 }
 
 // What is printed for a junction of the text; true where it is refused.
-fn put_section(heap: Global, out: &mut Vec<u8>, section: &Section<'_>, drawn: bool) -> Result<bool, AllocError>
+fn put_section(
+    heap: Global,
+    out: &mut Vec<u8>,
+    section: &Section<'_>,
+    drawn: bool,
+) -> Result<bool, AllocError>
     ensures { λ r. ⌜ made r (λ refused. Printed (told-of (now (section .entry))) drawn (vec-items (now (out .entry))) (vec-items (now (out .exit))) refused) ⌝ }
 {
     match section.junction(heap)? {
@@ -90,5 +129,8 @@ pub fn answer_all(heap: Global, text: &[u8], drawn: bool) -> Result<Answer, Allo
         let one = put_section(heap, &mut out, &section, drawn)?;
         refused = refused | one;
     }
-    Ok(Answer { bytes: out, refused })
+    Ok(Answer {
+        bytes: out,
+        refused,
+    })
 }

@@ -1,7 +1,7 @@
 // Two greens that cross, on a cycle that has room for both and on one that hasn't.
-use crate::placed::place;
-use crate::settings::Setting;
 use greens::Cycle;
+use placing::Setting;
+use placing::place;
 use std::test::*;
 
 // When a green of 7 seconds begins, on a cycle that it shares with one of 8 seconds that begins in second 0, with 2 seconds to clear after each.
