@@ -1,11 +1,21 @@
 -- The junctions of a text printed one after the other.
-use mathlib.Core.Path.{_≡_, refl, sym, ap, subst, _∙_}
-use mathlib.Core.Bool.{Bool, true, false, _||_}
+use mathlib.Core.Path.{_≡_, refl, sym, ap, subst, subst₂, _∙_}
+use mathlib.Core.Bool.{Bool, true, false, cond, _||_}
 use mathlib.Core.List.{List, [], _∷_, _++_}
 use Prim.Native.Nat.{ℕ}
 use Rattle.std.proofs.shelf.Lists.{append-assoc, append-nil}
+use Rattle.std.specs.declared.option.Option.{Option}
+use Rattle.greens.specs.declared.plans.Plan.{Plan}
+use Rattle.greens.specs.declared.seconds.Cycle.{Cycle}
+use Rattle.greens.specs.Plans.{green-of}
+use Rattle.crossing.specs.declared.junctions.Junction.{Junction}
+use Rattle.crossing.specs.Good.{worst, Best}
+use Rattle.crossing.specs.Taken.{site-of}
+use Rattle.texts.specs.Answers.{answer-line}
+use Rattle.texts.specs.Printed.{Adds}
+use Rattle.texts.specs.Rings.{rings}
 use Rattle.texts.specs.Sections.{Told}
-use Rattle.wetorunge.specs.Answers.{Printed, AllPrinted}
+use Rattle.wetorunge.specs.Answers.{Planned, Printed, AllPrinted}
 
 -- some junctions are printed, and others are left
 pub record Sofar (all : List Told) (drawn : Bool) (out : List ℕ) (refused : Bool) (left : List Told) : Type 0 where
@@ -45,3 +55,16 @@ pub sofar-all : (all : List Told) (drawn : Bool) (out : List ℕ) (refused : Boo
 sofar-all all drawn out refused left before is =
     let whole : all ≡ before .done = before .split ∙ (ap (λ (l : List Told). before .done ++ l) is ∙ append-nil (before .done)) in
     subst (λ (l : List Told). AllPrinted l drawn [] out refused) (sym whole) (before .printed)
+
+-- an answer line and its rings, if they were drawn, are what is printed for a best plan
+pub planned-in : (t : Told) (drawn : Bool) (j : Junction) (p : Plan) (w : ℕ) (before middle after : List ℕ) (title : Option (List ℕ)) (names again : List (List ℕ)) (cycle : Cycle) →
+    title ≡ t .name → names ≡ t .said .names → again ≡ t .said .names → cycle ≡ j .cycle → Best (site-of j) (green-of (p .greens)) → w ≡ worst (site-of j) (green-of (p .greens)) →
+    Adds before middle (answer-line title names (green-of (p .greens)) w) → Adds middle after (cond drawn (rings (cycle .seconds) again (green-of (p .greens))) []) → Planned t drawn j before after
+planned-in t drawn j p w before middle after title names again cycle is-title is-names is-again is-cycle best spares one two =
+    let line : List ℕ = answer-line (t .name) (t .said .names) (green-of (p .greens)) w in
+    let tail : List ℕ = cond drawn (rings (j .cycle .seconds) (t .said .names) (green-of (p .greens))) [] in
+    let first : middle ≡ before ++ line = subst₂ (λ (x : Option (List ℕ)) (ns : List (List ℕ)). middle ≡ before ++ answer-line x ns (green-of (p .greens)) w) is-title is-names (one .is) in
+    let second : after ≡ middle ++ tail
+    = subst₂ (λ (x : Cycle) (ns : List (List ℕ)). after ≡ middle ++ cond drawn (rings (x .seconds) ns (green-of (p .greens))) []) is-cycle is-again (two .is)
+    in
+    record { plan = p; spare = w; is-best = best; spares = spares; is = second ∙ (ap (λ (m : List ℕ). m ++ tail) first ∙ append-assoc before line tail) }

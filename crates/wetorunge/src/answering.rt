@@ -78,7 +78,8 @@ fn put_found(
         section.names(),
         &found.plan,
         drawn,
-    )
+    )?;
+    Ok(())
 }
 
 // The line for a junction that was taken, and its rings.
