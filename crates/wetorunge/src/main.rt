@@ -5,7 +5,6 @@ use answering::answer_all;
 use std::env;
 use std::error::AnyError;
 use std::fs;
-use std::io;
 use std::io::Read;
 use std::io::Write;
 
@@ -52,14 +51,17 @@ fn words(rt: &LibcRuntime) -> Result<Asked, AnyError> {
     };
     for word in env::args(rt)?.skip(1) {
         if asked.file.is_some() {
-            return Err("one file at a time; wetorunge --help says what goes".into());
+            return Err("one file at a time; --help says what goes".into());
         }
         match word.as_str() {
             "--help" => asked.help = true,
             "rings" => asked.rings = true,
             other => {
                 if other.starts_with("-") {
-                    return Err("an unknown word; wetorunge --help says what goes".into());
+                    return Err(format!(
+                        rt.alloc(),
+                        "{other} is an unknown word; --help says what goes"
+                    )?.into());
                 }
                 asked.file = Some(word);
             }
@@ -68,9 +70,12 @@ fn words(rt: &LibcRuntime) -> Result<Asked, AnyError> {
     Ok(asked)
 }
 
-fn text_of(rt: &LibcRuntime, file: &Option<String>) -> io::Result<Vec<u8>> {
+fn text_of(rt: &LibcRuntime, file: &Option<String>) -> Result<Vec<u8>, AnyError> {
     match file {
-        Some(path) => fs::read(rt, path.as_str()),
+        Some(path) => match fs::read(rt, path.as_str()) {
+            Ok(text) => Ok(text),
+            Err(error) => Err(format!(rt.alloc(), "{path}: {error}")?.into()),
+        },
         None => {
             let mut text = Vec::new(rt.alloc());
             rt.stdin().read_to_end(&mut text)?;
