@@ -1,25 +1,23 @@
 -- An answer line read back. Assumes nothing.
 use mathlib.Core.Path.{_≡_, refl, sym, ap, _∙_}
-use mathlib.Core.Bool.{Bool, true, false, cond, _&&_}
-use mathlib.Core.List.{List, [], _∷_, _++_, append-nil, append-assoc}
+use mathlib.Core.Bool.{true, false, cond}
+use mathlib.Core.List.{List, [], _∷_, _++_, append-assoc}
 use mathlib.Core.Logic.{⊎-elim}
-use Prim.Native.Nat.{ℕ, suc, _+_, _-_, _^_, _≤_, _<_}
+use Prim.Native.Nat.{ℕ, _+_, _-_, _<_}
 use native.Mathlib.Omega.{arith}
 use lib.Chars.{codes}
-use lib.Dec.{eqb, ltb}
-use lib.ListN.{length}
+use lib.Dec.{eqb}
 use Rattle.std.specs.declared.option.Option.{Option}
 use Rattle.std.specs.declared.option.Option.the-variants.{Some, None}
-use Rattle.std.specs.Options.{isSome, valueOr}
+use Rattle.std.specs.Options.{isSome}
 use Rattle.std.specs.Written.{decimal}
-use Rattle.std.specs.shelf.Text.{sameBytes}
 use Rattle.std.proofs.shelf.Tests.{and-parts, cases-bool}
 use Rattle.greens.specs.declared.lights.Green.{Green}
 use Rattle.greens.specs.Plans.{noGreen}
-use Rattle.texts.specs.Words.{words, number-in}
+use Rattle.texts.specs.Words.{words}
 use Rattle.texts.specs.Answers.{span-words, green-words, stream-words, each-from, streams-words, title-words, answer-line}
-use Rattle.texts.specs.Back.{Shown, but-last, green-in, greens-in, after-title, answer-in, letters, is-word, are-words, title-is-word, shown, shown-from, Read-back}
-use Rattle.texts.proofs.Spelled.{word-then, word-last, word-push, but-last-push, Numeral, decimal-numeral, numeral-word, numeral-reads, not-never}
+use Rattle.texts.specs.Back.{but-last, greens-in, after-title, answer-in, letters, is-word, are-words, title-is-word, shown-from, Read-back}
+use Rattle.texts.proofs.Spelled.{word-then, word-last, word-push, but-last-push, decimal-numeral, numeral-word, numeral-reads, not-never}
 
 -- a green that bytes hold
 abbrev Small : Green → Type 0

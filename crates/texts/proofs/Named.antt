@@ -1,9 +1,9 @@
 -- The names that a text says are words. Assumes nothing.
-use mathlib.Core.Path.{_≡_, refl, sym, ap, subst, _∙_}
-use mathlib.Core.Bool.{Bool, true, false, cond, _&&_, _||_, not}
+use mathlib.Core.Path.{_≡_, refl, sym, subst}
+use mathlib.Core.Bool.{Bool, true, false, cond, _&&_, _||_}
 use mathlib.Core.List.{List, [], _∷_, _++_}
 use mathlib.Core.Logic.{⊎-elim}
-use Prim.Native.Nat.{ℕ, _+_, _<_}
+use Prim.Native.Nat.{ℕ, _+_}
 use native.Mathlib.Omega.{arith}
 use lib.Chars.{codes}
 use lib.Dec.{eqb, ltb}
@@ -13,10 +13,10 @@ use Rattle.std.specs.declared.option.Option.the-variants.{Some, None}
 use Rattle.std.specs.shelf.Text.{sameBytes}
 use Rattle.std.proofs.shelf.Tests.{and-parts, and-from, cases-bool, cond-both, lt-ltb, not-from-false, or-from}
 use Rattle.texts.specs.Words.{blank, ended, words-from, words, lines, number-in, capped}
-use Rattle.texts.specs.Lines.{Said, nothing, begins, lasts, stream, clears, unread, with-number, numbered-stream, two-say, three-say, five-say, line-in}
-use Rattle.texts.specs.Drafts.{Sofar, fresh, with-cycle, with-stream, with-pair, with-line, place, number-said}
-use Rattle.texts.specs.Sections.{Told, opened, more-said, unless-stopped, on-line, need-cycle, closed, begin-name, by-begin, says, told-from, told-in}
-use Rattle.texts.specs.Back.{letter, letters, is-word, are-words, title-is-word, told-words, all-words, Names-are-words}
+use Rattle.texts.specs.Lines.{Said, nothing, begins, lasts, stream, clears, unread, with-number, numbered-stream, line-in}
+use Rattle.texts.specs.Drafts.{Sofar, with-cycle, with-line, place, number-said}
+use Rattle.texts.specs.Sections.{Told, opened, more-said, unless-stopped, on-line, need-cycle, closed, begin-name, by-begin, says, told-from}
+use Rattle.texts.specs.Back.{letters, is-word, are-words, title-is-word, told-words, all-words, Names-are-words}
 use Rattle.texts.proofs.Spelled.{letters-push}
 use Rattle.texts.proofs.Splits.{at-end, at-blank, at-hash, at-letter}
 

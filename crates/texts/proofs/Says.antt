@@ -5,7 +5,7 @@ use Prim.Native.Nat.{ℕ}
 use native.Mathlib.Omega.{arith}
 use denote.Ref.{RefT, now}
 use lib.ListN.{length, getD}
-use Rattle.texts.specs.Lines.{Said, unread, nothing, two-say, three-say, five-say, line-in}
+use Rattle.texts.specs.Lines.{unread, nothing, two-say, three-say, five-say, line-in}
 
 pub none-say : (ws : List (RefT (List ℕ))) → length ws ≡ 0 → nothing ≡ line-in (map now ws)
 unfolding line-in

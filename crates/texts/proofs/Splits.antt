@@ -1,15 +1,15 @@
 -- The first line of a text and the first word of a line. Assumes nothing.
 use mathlib.Core.Path.{_≡_, refl, sym, ap, _∙_}
-use mathlib.Core.Bool.{Bool, true, false, cond, _||_, not}
+use mathlib.Core.Bool.{Bool, true, false, _||_, not}
 use mathlib.Core.List.{List, [], _∷_, _++_, append-nil, append-assoc}
 use mathlib.Core.Logic.{⊎-elim}
-use Prim.Native.Nat.{ℕ, zero, suc, _+_, _-_, _≤_, _<_}
+use Prim.Native.Nat.{ℕ, zero, suc, _+_, _-_, _<_}
 use native.Mathlib.Numerals.{add-one}
 use native.Mathlib.Omega.{arith}
 use lib.Dec.{eqb}
 use lib.ListN.{length, take, drop}
 use Rattle.std.proofs.shelf.Lists.{take-rest, take-all, drop-all}
-use Rattle.std.proofs.shelf.Tests.{cases-bool, or-cases, or-parts, or-left, or-right}
+use Rattle.std.proofs.shelf.Tests.{cases-bool, or-left, or-right}
 use Rattle.std.proofs.shelf.Ways.{tells}
 use Rattle.texts.specs.Words.{onto, lines, front, line-end, blank, ended, words-from, words, gap, word-end}
 

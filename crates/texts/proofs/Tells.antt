@@ -1,12 +1,12 @@
 -- One line more of a text. Assumes nothing.
 use mathlib.Core.Path.{_≡_, refl, sym, ap, _∙_}
-use mathlib.Core.Bool.{Bool, true, false, cond, _||_}
+use mathlib.Core.Bool.{Bool, true, false, _||_}
 use mathlib.Core.List.{List, [], _∷_}
 use Prim.Native.Nat.{ℕ, _+_}
 use Rattle.std.specs.declared.option.Option.the-variants.{Some, None}
 use Rattle.texts.specs.Words.{words}
 use Rattle.texts.specs.Lines.{Said, line-in}
-use Rattle.texts.specs.Sections.{Told, opened, on-line, closed, begin-name, by-begin, says, told-from}
+use Rattle.texts.specs.Sections.{Told, opened, on-line, closed, begin-name, says, told-from}
 
 module _ (line : ℕ) (some : Bool) (t : Told) (l : List ℕ) (ls : List (List ℕ)) where
   pub told-end : told-from line some t [] ≡ closed line t ∷ []

@@ -9,7 +9,7 @@ use Rattle.std.specs.declared.option.Option.{Option}
 use Rattle.std.specs.declared.option.Option.the-variants.{Some, None}
 use Rattle.std.specs.Options.{valueOr}
 use Rattle.std.specs.declared.result.Result.{Result}
-use Rattle.std.specs.declared.result.Result.the-variants.{Ok, Err}
+use Rattle.std.specs.declared.result.Result.the-variants.{Err}
 use Rattle.crossing.specs.declared.junctions.Junction.{Junction}
 use Rattle.crossing.specs.declared.refusals.Refusal.{Refusal}
 use Rattle.crossing.specs.declared.refusals.Refusal.the-variants.{Text}

@@ -1,7 +1,6 @@
 // The numbers of a junction that a text says, read as a junction or refused.
 ghost use mathlib.Core.Path.{_≡_};
 ghost use Prim.Native.Nat.{_*_, _≤_};
-ghost use lib.ListN.{length};
 ghost use Rattle.std.specs.Of.Vec.{vec-items};
 ghost use Rattle.std.specs.Vec.{made};
 ghost use Rattle.texts.specs.Drafts.{sofar-of};

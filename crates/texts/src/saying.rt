@@ -1,8 +1,7 @@
 // A line of a text, by its words alone.
 ghost use mathlib.Core.Path.{_≡_};
-ghost use mathlib.Core.List.{[], _∷_, _++_, map};
-ghost use Prim.Native.Nat.{_+_, _<_, _≤_};
-ghost use lib.ListN.{length};
+ghost use mathlib.Core.List.{map};
+ghost use Prim.Native.Nat.{_<_};
 ghost use denote.Ref.{now as told};
 ghost use Rattle.std.specs.Of.Vec.{vec-items};
 ghost use Rattle.std.specs.Vec.{made};
@@ -19,8 +18,8 @@ use std::alloc::Global;
 pub enum Fault<'a> {
     // It is of no kind.
     NoKind,
-    // A word stands where a number is wanted.
-    NoNumber(&'a [u8]),
+    // A word stands where a number is wanted, in a line that has to be so.
+    NoNumber(&'a [u8], &'a [u8]),
     // A name is none of the streams said above.
     NoStream(&'a [u8]),
     // A stream's name is said again.
@@ -71,7 +70,7 @@ fn two_words<'a>(first: &'a [u8], second: &'a [u8]) -> Line<'a>
     }
     match number(second) {
         Some(seconds) => Line::Cycle(seconds),
-        None => Line::Unread(Fault::NoNumber(second)),
+        None => Line::Unread(Fault::NoNumber(second, b"cycle SECONDS")),
     }
 }
 
@@ -81,7 +80,7 @@ fn three_words<'a>(first: &'a [u8], seconds: &'a [u8], next: &'a [u8]) -> Line<'
 {
     match number(seconds) {
         Some(clear) => Line::Pair(first, clear, next),
-        None => Line::Unread(Fault::NoNumber(seconds)),
+        None => Line::Unread(Fault::NoNumber(seconds, b"NAME SECONDS NAME")),
     }
 }
 
@@ -90,11 +89,11 @@ fn stream_in<'a>(name: &'a [u8], least: &'a [u8], comes: &'a [u8]) -> Line<'a>
     ensures { λ r. ⌜ said r ≡ numbered-stream (now (name .entry)) (number-in (now (least .entry))) (number-in (now (comes .entry))) ⌝ }
 {
     let Some(long) = number(least) else {
-        return Line::Unread(Fault::NoNumber(least));
+        return Line::Unread(Fault::NoNumber(least, b"NAME least SECONDS comes COUNT"));
     };
     match number(comes) {
         Some(many) => Line::Stream(name, long, many),
-        None => Line::Unread(Fault::NoNumber(comes)),
+        None => Line::Unread(Fault::NoNumber(comes, b"NAME least SECONDS comes COUNT")),
     }
 }
 

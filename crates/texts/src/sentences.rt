@@ -1,22 +1,17 @@
 // Why a junction is refused, in the words of its text.
 ghost use Rattle.std.specs.Of.Vec.{vec-items};
 ghost use Rattle.std.specs.Vec.{made};
-ghost use Rattle.texts.specs.Printed.{Adds, Grows};
-ghost use Rattle.texts.specs.Refused.{refused-words, Says};
-ghost use Rattle.texts.specs.Sections.{told-of};
-use crate::answers::put_title;
+ghost use Rattle.texts.specs.Printed.{Grows};
 use crate::drafts::Clearing;
 use crate::printing::put;
 use crate::printing::put_number;
 use crate::saying::Fault;
-use crate::sections::Section;
 use crate::sections::Stop;
 use crate::taking::number_said;
-use crossing::Refusal;
 use std::alloc::AllocError;
 use std::alloc::Global;
 
-fn say(out: &mut Vec<u8>, words: &[u8]) -> Result<(), AllocError>
+pub(crate) fn say(out: &mut Vec<u8>, words: &[u8]) -> Result<(), AllocError>
     ensures { λ r. ⌜ made r (λ _. Grows (vec-items (now (out .entry))) (vec-items (now (out .exit)))) ⌝ }
 {
     put(out, words)
@@ -66,7 +61,13 @@ fn say_fault(out: &mut Vec<u8>, fault: Fault<'_>) -> Result<(), AllocError>
             out,
             b"this line is none of: junction NAME, cycle SECONDS, NAME least SECONDS comes COUNT, NAME SECONDS NAME",
         ),
-        Fault::NoNumber(word) => say_three(out, b"\"", word, b"\" is not a number"),
+        Fault::NoNumber(word, form) => say_four(
+            out,
+            b"\"",
+            word,
+            b"\" is not a number; the line has to be ",
+            form,
+        ),
         Fault::NoStream(word) => say_three(out, b"\"", word, b"\" is no stream of this junction"),
         Fault::StreamAgain(name) => say_three(out, b"", name, b" is said twice"),
         Fault::CycleAgain => say(out, b"cycle is said twice"),
@@ -81,7 +82,7 @@ fn say_fault(out: &mut Vec<u8>, fault: Fault<'_>) -> Result<(), AllocError>
     }
 }
 
-fn say_stop(out: &mut Vec<u8>, stop: Option<Stop<'_>>) -> Result<(), AllocError>
+pub(crate) fn say_stop(out: &mut Vec<u8>, stop: Option<Stop<'_>>) -> Result<(), AllocError>
     ensures { λ r. ⌜ made r (λ _. Grows (vec-items (now (out .entry))) (vec-items (now (out .exit)))) ⌝ }
 {
     match stop {
@@ -102,7 +103,7 @@ fn say_above(heap: Global, out: &mut Vec<u8>, number: u8) -> Result<(), AllocErr
 }
 
 // Why a cycle is refused.
-fn say_cycle(heap: Global, out: &mut Vec<u8>, seconds: u64) -> Result<(), AllocError>
+pub(crate) fn say_cycle(heap: Global, out: &mut Vec<u8>, seconds: u64) -> Result<(), AllocError>
     ensures { λ r. ⌜ made r (λ _. Grows (vec-items (now (out .entry))) (vec-items (now (out .exit)))) ⌝ }
 {
     if seconds == 0 {
@@ -123,7 +124,7 @@ fn name_at<'a>(names: &[&'a [u8]], place: usize) -> &'a [u8] {
 }
 
 // Why the streams are refused: their count, or the number at a place, two for each stream.
-fn say_streams(
+pub(crate) fn say_streams(
     heap: Global,
     out: &mut Vec<u8>,
     names: &[&[u8]],
@@ -191,7 +192,7 @@ fn say_pair(
 }
 
 // Why the table is refused at a place, row by row.
-fn say_table(
+pub(crate) fn say_table(
     heap: Global,
     out: &mut Vec<u8>,
     names: &[&[u8]],
@@ -215,61 +216,4 @@ fn say_table(
         number,
         back,
     )
-}
-
-// Why a section is refused.
-fn say_why(
-    heap: Global,
-    out: &mut Vec<u8>,
-    section: &Section<'_>,
-    refusal: Refusal,
-) -> Result<(), AllocError>
-    ensures { λ r. ⌜ made r (λ _. Grows (vec-items (now (out .entry))) (vec-items (now (out .exit)))) ⌝ }
-{
-    let draft = &section.draft;
-    match refusal {
-        Refusal::Cycle(seconds) => say_cycle(heap, out, seconds),
-        Refusal::Streams(place) => say_streams(
-            heap,
-            out,
-            draft.names.as_slice(),
-            draft.figures.as_slice(),
-            place as usize,
-        ),
-        Refusal::Table(place) => say_table(
-            heap,
-            out,
-            draft.names.as_slice(),
-            draft.clearings.as_slice(),
-            place as usize,
-        ),
-        Refusal::Room(_) => say(out, b"the room does not fit"),
-        Refusal::Text(_) => say_stop(out, section.stop),
-    }
-}
-
-// The number of a refusal and its place.
-fn put_refused(heap: Global, out: &mut Vec<u8>, refusal: Refusal) -> Result<(), AllocError>
-    ensures { λ r. ⌜ made r (λ _. Adds (vec-items (now (out .entry))) (vec-items (now (out .exit))) (refused-words refusal)) ⌝ }
-{
-    put(out, b"refused ")?;
-    put_number(heap, out, refusal.number())?;
-    put(out, b" at ")?;
-    put_number(heap, out, refusal.place())?;
-    put(out, b": ")
-}
-
-// The line that says why a section is refused.
-pub fn put_refusal(
-    heap: Global,
-    out: &mut Vec<u8>,
-    section: &Section<'_>,
-    refusal: Refusal,
-) -> Result<(), AllocError>
-    ensures { λ r. ⌜ made r (λ _. Says (vec-items (now (out .entry))) (vec-items (now (out .exit))) (told-of (now (section .entry)) .name) refusal) ⌝ }
-{
-    put_title(out, section.name())?;
-    put_refused(heap, out, refusal)?;
-    say_why(heap, out, section, refusal)?;
-    put(out, b"\n")
 }

@@ -1,5 +1,4 @@
 use mathlib.Core.Path.{_∙_}
-use native.Mathlib.Omega.{arith}
 use Rattle.texts.proofs.Says.{none-say, say-two, say-three, say-five, say-other}
 use Rattle.texts.proofs.saying.line_of.Needs as need
 

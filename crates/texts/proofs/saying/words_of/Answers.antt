@@ -1,5 +1,4 @@
-use mathlib.Core.Path.{_≡_, sym, ap}
-use mathlib.Core.List.{_++_, map}
+use mathlib.Core.Path.{ap}
 use denote.Ref.{now}
 use Rattle.std.proofs.Told.{chosen}
 use Rattle.std.specs.Of.Vec.{vec-items}

@@ -1,4 +1,4 @@
-use Rattle.texts.proofs.Puts.{then-put, then-grow, grows}
+use Rattle.texts.proofs.Puts.{then-grow, grows}
 use Rattle.texts.proofs.sentences.say_number.Needs as need
 
 pub returns : need.returns

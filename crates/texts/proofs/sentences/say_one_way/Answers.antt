@@ -1,4 +1,4 @@
-use Rattle.texts.proofs.Puts.{then-put, then-grow, grows}
+use Rattle.texts.proofs.Puts.{then-grow}
 use Rattle.texts.proofs.sentences.say_one_way.Needs as need
 
 pub returns : need.returns

@@ -1,7 +1,6 @@
 use mathlib.Core.Bool.{not}
 use native.Mathlib.Omega.{arith}
 use lib.Dec.{eqb}
-use Rattle.std.proofs.shelf.Tests.{ne-eqb, eq-eqb}
 use Rattle.std.proofs.shelf.Ways.{tells}
 use Rattle.texts.proofs.Fronts.{front-more, front-stops, front-ends}
 use Rattle.texts.proofs.wording.line_end.Needs as need

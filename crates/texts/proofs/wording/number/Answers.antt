@@ -6,7 +6,7 @@ use borrow.Author.Tests.{false-eqb}
 use Rattle.std.proofs.shelf.Ways.{tells}
 use Rattle.std.specs.Options.{mapped}
 use Rattle.texts.specs.Words.{capped}
-use Rattle.texts.proofs.Figures.{number-some, digits-more, digits-stop, digits-all, capped-more}
+use Rattle.texts.proofs.Figures.{number-some, digits-more, digits-stop, digits-all}
 use Rattle.texts.proofs.wording.number.Needs as need
 use Rattle.texts.proofs.wording.number.Needs.{then-b-lt48·by·then-b-lt48, then-b-lt48·by·else-b-lt48·then-b-gt57}
 

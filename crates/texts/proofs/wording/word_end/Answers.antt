@@ -1,11 +1,8 @@
-use mathlib.Core.Path.{_≡_, sym, _∙_}
-use mathlib.Core.Bool.{true, false, not, _||_}
-use Prim.Native.Nat.{ℕ}
+use mathlib.Core.Path.{sym, _∙_}
+use mathlib.Core.Bool.{not, _||_}
 use native.Mathlib.Omega.{arith}
 use lib.Dec.{eqb}
-use lib.ListN.{getD}
 use Rattle.std.proofs.shelf.Tests.{ne-eqb, eq-eqb}
-use Rattle.std.proofs.shelf.Ways.{tells}
 use Rattle.texts.specs.Words.{blank}
 use Rattle.texts.proofs.Fronts.{front-more, front-stops, front-ends}
 use Rattle.texts.proofs.wording.word_end.Needs as need

@@ -2,8 +2,7 @@ use mathlib.Core.Path.{_≡_, sym, ap, _∙_}
 use mathlib.Core.List.{map}
 use lib.ListN.{length, length-map}
 use denote.Ref.{now}
-use Rattle.std.proofs.shelf.Results.{made-at-ok}
-use Rattle.std.specs.Of.Vec.{vec-items, vec-len}
+use Rattle.std.specs.Of.Vec.{vec-items}
 use Rattle.std.specs.Options.{valueOr}
 use Rattle.texts.specs.Numbers.{table-said}
 use Rattle.texts.proofs.SameNumbers.{read-same}

@@ -1,7 +1,7 @@
 use mathlib.Core.Path.{_≡_, refl}
 use mathlib.Core.List.{map}
 use native.Mathlib.Omega.{arith}
-use lib.ListN.{length, length-map}
+use lib.ListN.{length-map}
 use denote.Ref.{now}
 use Rattle.std.specs.Of.Vec.{vec-items}
 use Rattle.texts.specs.Drafts.{place, sofar-of}

@@ -1,15 +1,14 @@
-use mathlib.Core.Path.{_≡_, refl, sym, ap, _∙_}
-use mathlib.Core.List.{map}
+use mathlib.Core.Path.{_≡_, ap}
 use native.Mathlib.Omega.{arith}
-use Prim.Native.Nat.{_+_, _<_}
-use lib.ListN.{length, length-map}
+use Prim.Native.Nat.{_+_}
+use lib.ListN.{length-map}
 use denote.Ref.{now}
 use Rattle.std.proofs.Told.{chosen}
-use Rattle.std.specs.Of.Vec.{vec-items, vec-len}
+use Rattle.std.specs.Of.Vec.{vec-items}
 use Rattle.std.specs.Results.{isOk}
 use Rattle.texts.specs.Words.{capped}
 use Rattle.texts.specs.Drafts.{number-said, sofar-of}
-use Rattle.texts.proofs.Taken.{pair-again, pair-new}
+use Rattle.texts.proofs.Taken.{pair-new}
 use Rattle.texts.proofs.drafts.Draft.take_places.Needs as need
 
 pub returns : need.returns

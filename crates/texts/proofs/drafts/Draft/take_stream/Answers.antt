@@ -1,12 +1,11 @@
-use mathlib.Core.Path.{_≡_, refl, sym, ap, _∙_}
+use mathlib.Core.Path.{_≡_, refl, ap, _∙_}
 use mathlib.Core.List.{map}
-use Prim.Native.Nat.{_≤_, _<_}
 use native.Mathlib.Omega.{arith}
-use lib.ListN.{length, length-map}
+use lib.ListN.{length-map}
 use denote.Ref.{now}
 use Rattle.std.proofs.Told.{chosen}
 use Rattle.std.proofs.shelf.Lists.{map-push}
-use Rattle.std.specs.Of.Vec.{vec-items, vec-len}
+use Rattle.std.specs.Of.Vec.{vec-items}
 use Rattle.std.specs.Results.{isOk}
 use Rattle.texts.specs.Drafts.{place, sofar-of}
 use Rattle.texts.proofs.Taken.{stream-again, stream-new}

@@ -1,20 +1,17 @@
-use mathlib.Core.Path.{_≡_, refl, sym, ap, _∙_}
-use mathlib.Core.Bool.{Bool, true, false, cond, _||_}
+use mathlib.Core.Path.{_≡_, sym, ap, _∙_}
+use mathlib.Core.Bool.{true, _||_}
 use mathlib.Core.List.{[], _∷_}
 use Prim.Native.Nat.{_+_, _<_}
 use native.Mathlib.Omega.{arith}
 use borrow.Author.Tests.{false-eqb, true-eqb}
 use lib.ListN.{length}
 use denote.Ref.{now}
-use Rattle.std.proofs.shelf.Lists.{nil-from-length}
 use Rattle.std.proofs.shelf.Results.{made-at-ok}
 use Rattle.std.proofs.shelf.Tests.{cond-true}
-use Rattle.std.specs.declared.option.Option.the-variants.{Some, None}
-use Rattle.std.specs.Options.{isSome, mapped}
 use Rattle.texts.specs.declared.readers.Reader.{Reader}
 use Rattle.texts.specs.Words.{lines}
 use Rattle.texts.specs.Lines.{said}
-use Rattle.texts.specs.Sections.{opened, closed, told-from, told-of, on-line}
+use Rattle.texts.specs.Sections.{told-from, told-of}
 use Rattle.texts.proofs.Tells.{told-end, reader-closes, reader-begins, reader-goes}
 use Rattle.texts.proofs.Splits.{no-lines}
 use Rattle.texts.proofs.readers.Reader.next.Needs as need

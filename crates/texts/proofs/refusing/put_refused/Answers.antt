@@ -2,7 +2,7 @@ use mathlib.Core.Path.{ap}
 use Rattle.std.specs.Written.{decimal}
 use Rattle.texts.proofs.Puts.{then-put}
 use Rattle.texts.proofs.Rows.{adds-as}
-use Rattle.texts.proofs.sentences.put_refused.Needs as need
+use Rattle.texts.proofs.refusing.put_refused.Needs as need
 
 pub returns : need.returns
 returns c =

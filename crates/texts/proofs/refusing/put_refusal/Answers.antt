@@ -3,7 +3,7 @@ use Rattle.texts.specs.Answers.{title-words}
 use Rattle.texts.specs.Sections.{told-of}
 use Rattle.texts.proofs.Puts.{refusal-line}
 use Rattle.texts.proofs.Rows.{adds-as}
-use Rattle.texts.proofs.sentences.put_refusal.Needs as need
+use Rattle.texts.proofs.refusing.put_refusal.Needs as need
 
 pub returns : need.returns
 returns c =
