@@ -21,36 +21,39 @@ fn green(numbers: (u8, u8)) -> Green {
 }
 
 #[test]
-fn clear_after_the_end() -> Result<(), Fail> {
-    check(keeps_apart(2, (0, 3), (5, 2)))?;
-    check(!keeps_apart(2, (0, 3), (4, 2)))?;
-    check(keeps_apart(2, (8, 3), (1, 7)))?;
-    check(!keeps_apart(2, (8, 3), (0, 7)))?;
-    check(!keeps_apart(2, (8, 3), (1, 8)))
-}
-
-#[test]
-fn not_the_same_both_ways() -> Result<(), Fail> {
-    check(keeps_apart(1, (0, 3), (4, 2)))?;
-    check(!keeps_apart(2, (0, 3), (4, 2)))?;
-    check(keeps_apart(6, (4, 2), (0, 3)))?;
-    check(!keeps_apart(7, (4, 2), (0, 3)))
+fn seconds_to_clear() -> Result<(), Fail> {
+    for (clear, first, next, apart) in [
+        (2, (0, 3), (5, 2), true),
+        (2, (0, 3), (4, 2), false),
+        (2, (8, 3), (1, 7), true),
+        (2, (8, 3), (0, 7), false),
+        (2, (8, 3), (1, 8), false),
+        // Not the same both ways.
+        (1, (0, 3), (4, 2), true),
+        (6, (4, 2), (0, 3), true),
+        (7, (4, 2), (0, 3), false),
+        // Round the cycle, and longer than it.
+        (10, (0, 1), (11, 1), true),
+        (11, (0, 1), (11, 1), false),
+        (120, (0, 1), (11, 1), false),
+    ] {
+        check_eq(keeps_apart(clear, first, next), apart)?;
+    }
+    Ok(())
 }
 
 #[test]
 fn empty_and_whole() -> Result<(), Fail> {
-    check(keeps_apart(120, (3, 0), (0, 12)))?;
-    check(keeps_apart(120, (0, 12), (3, 0)))?;
-    check(!keeps_apart(0, (0, 12), (11, 1)))?;
-    check(!keeps_apart(0, (5, 12), (4, 1)))?;
-    check(keeps_apart(0, (0, 11), (11, 1)))
-}
-
-#[test]
-fn clearing_round_the_cycle() -> Result<(), Fail> {
-    check(keeps_apart(10, (0, 1), (11, 1)))?;
-    check(!keeps_apart(11, (0, 1), (11, 1)))?;
-    check(!keeps_apart(120, (0, 1), (11, 1)))
+    for (clear, first, next, apart) in [
+        (120, (3, 0), (0, 12), true),
+        (120, (0, 12), (3, 0), true),
+        (0, (0, 12), (11, 1), false),
+        (0, (5, 12), (4, 1), false),
+        (0, (0, 11), (11, 1), true),
+    ] {
+        check_eq(keeps_apart(clear, first, next), apart)?;
+    }
+    Ok(())
 }
 
 #[test]

@@ -58,41 +58,47 @@ const APART: [u8; 4] = [0, 0, 0, 0];
 
 #[test]
 fn good_plans() -> Result<(), Fail> {
-    check_eq(good(judged(CROSS, (0, 4), (6, 4))?), Some((1, true)))?;
-    check_eq(good(judged(CROSS, (10, 4), (4, 4))?), Some((1, true)))?;
-    check_eq(good(judged(CROSS, (0, 3), (6, 2))?), Some((0, true)))?;
-    check_eq(good(judged(CROSS, (0, 2), (6, 2))?), Some((0, false)))?;
-    check_eq(good(judged(APART, (0, 12), (11, 12))?), Some((9, true)))
+    for (table, first, second, answer) in [
+        (CROSS, (0, 4), (6, 4), (1, true)),
+        (CROSS, (10, 4), (4, 4), (1, true)),
+        (CROSS, (0, 3), (6, 2), (0, true)),
+        (CROSS, (0, 2), (6, 2), (0, false)),
+        (APART, (0, 12), (11, 12), (9, true)),
+        // Two seconds to clear one way, and none the other.
+        ([0, 3, 1, 0], (0, 4), (6, 6), (1, true)),
+        ([0, 1, 3, 0], (0, 4), (4, 6), (1, true)),
+    ] {
+        check_eq(good(judged(table, first, second)?), Some(answer))?;
+    }
+    Ok(())
 }
 
 #[test]
 fn greens_that_do_not_fit() -> Result<(), Fail> {
-    check_eq(unfit(judged(CROSS, (12, 4), (6, 4))?), Some(0))?;
-    check_eq(unfit(judged(CROSS, (0, 1), (6, 4))?), Some(0))?;
-    check_eq(unfit(judged(CROSS, (0, 13), (6, 4))?), Some(0))?;
-    check_eq(unfit(judged(CROSS, (0, 4), (4, 1))?), Some(1))?;
-    check_eq(unfit(judged(CROSS, (0, 4), (12, 0))?), Some(1))
+    for (first, second, stream) in [
+        ((12, 4), (6, 4), 0),
+        ((0, 1), (12, 0), 0),
+        ((0, 13), (6, 4), 0),
+        ((0, 4), (4, 1), 1),
+        ((0, 4), (12, 4), 1),
+    ] {
+        check_eq(unfit(judged(CROSS, first, second)?), Some(stream))?;
+    }
+    Ok(())
 }
 
 #[test]
 fn greens_too_close() -> Result<(), Fail> {
-    check_eq(close(judged(CROSS, (0, 4), (5, 4))?), Some((5, 0, 1)))?;
-    check_eq(close(judged(CROSS, (0, 4), (7, 4))?), Some((0, 1, 0)))?;
-    check_eq(close(judged(CROSS, (3, 4), (3, 4))?), Some((3, 0, 1)))?;
-    check_eq(close(judged(CROSS, (0, 12), (11, 2))?), Some((0, 0, 1)))
-}
-
-// Two seconds to clear one way and none the other; and more seconds to clear than the cycle has.
-#[test]
-fn other_clearing() -> Result<(), Fail> {
-    check_eq(good(judged([0, 3, 1, 0], (0, 4), (6, 6))?), Some((1, true)))?;
-    check_eq(
-        close(judged([0, 1, 3, 0], (0, 4), (6, 6))?),
-        Some((0, 1, 0)),
-    )?;
-    check_eq(good(judged([0, 1, 3, 0], (0, 4), (4, 6))?), Some((1, true)))?;
-    check_eq(
-        close(judged([0, 121, 1, 0], (0, 4), (6, 4))?),
-        Some((6, 0, 1)),
-    )
+    for (table, first, second, answer) in [
+        (CROSS, (0, 4), (5, 4), (5, 0, 1)),
+        (CROSS, (0, 4), (7, 4), (0, 1, 0)),
+        (CROSS, (3, 4), (3, 4), (3, 0, 1)),
+        (CROSS, (0, 12), (11, 2), (0, 0, 1)),
+        ([0, 1, 3, 0], (0, 4), (6, 6), (0, 1, 0)),
+        // More seconds to clear than the cycle has.
+        ([0, 121, 1, 0], (0, 4), (6, 4), (6, 0, 1)),
+    ] {
+        check_eq(close(judged(table, first, second)?), Some(answer))?;
+    }
+    Ok(())
 }
