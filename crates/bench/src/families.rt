@@ -41,7 +41,7 @@ fn show_times(rt: &LibcRuntime, name: &str, times: &[u64]) -> Result<(), AnyErro
     Ok(())
 }
 
-pub fn run(rt: &LibcRuntime, name: &str, rounds: u32) -> Result<(), AnyError> {
+pub(crate) fn run(rt: &LibcRuntime, name: &str, rounds: u32) -> Result<(), AnyError> {
     let family = read(rt, name)?;
     let mut sums = Sums {
         right: 0,

@@ -42,7 +42,7 @@ fn answers_in(heap: Global, text: &str) -> Result<Vec<Option<u8>>, AnyError> {
     Ok(answers)
 }
 
-pub fn read(rt: &LibcRuntime, name: &str) -> Result<Family, AnyError> {
+pub(crate) fn read(rt: &LibcRuntime, name: &str) -> Result<Family, AnyError> {
     let heap = rt.alloc();
     let text = fs::read_to_string(rt, format!(heap, "{name}.txt")?)?;
     let known = fs::read_to_string(rt, format!(heap, "{name}.answers")?)?;

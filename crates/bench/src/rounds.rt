@@ -26,7 +26,7 @@ fn time_once(rt: &LibcRuntime, junction: &Junction) -> Result<Timed, AnyError> {
 }
 
 // The shortest of so many rounds; at least one is run.
-pub fn time(rt: &LibcRuntime, junction: &Junction, rounds: u32) -> Result<Timed, AnyError> {
+pub(crate) fn time(rt: &LibcRuntime, junction: &Junction, rounds: u32) -> Result<Timed, AnyError> {
     let mut least = time_once(rt, junction)?;
     for _ in 1..rounds {
         let again = time_once(rt, junction)?;

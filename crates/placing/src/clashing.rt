@@ -68,7 +68,7 @@ fn tightest_with(gaps: &Gaps, bounds: &Bounds, one: usize) -> Option<Clash>
     best
 }
 
-pub fn tightest(gaps: &Gaps, bounds: &Bounds) -> Option<Clash>
+pub(crate) fn tightest(gaps: &Gaps, bounds: &Bounds) -> Option<Clash>
     ensures { λ r. ⌜ Cases r ((a : ℕ) → a < now (gaps .entry) .count → (b : ℕ) → b ≤ a → OneFirst (now (gaps .entry)) (now (bounds .entry)) a b) (λ c. Clashing (now (gaps .entry)) (now (bounds .entry)) (c .first) (c .second)) ⌝ }
 {
     let mut best = None;

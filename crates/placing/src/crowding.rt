@@ -35,7 +35,7 @@ fn span(gaps: &Gaps, bounds: &Bounds, one: usize, other: usize) -> u32
     gap
 }
 
-pub fn spread(gaps: &Gaps, bounds: &Bounds) -> Spans
+pub(crate) fn spread(gaps: &Gaps, bounds: &Bounds) -> Spans
     ensures { λ r. ⌜ Spread (now (gaps .entry)) (now (bounds .entry)) r ⌝ }
 {
     let mut spans = [0; PAIRS];
@@ -109,7 +109,7 @@ fn total(gaps: &Gaps, out: &Margins, into: &Margins) -> u32
 }
 
 // How much of the cycle a group takes, with such spans; where that is more than the cycle, nobody obeys bounds that have them.
-pub fn taken(gaps: &Gaps, spans: &Spans, group: &Group) -> u32
+pub(crate) fn taken(gaps: &Gaps, spans: &Spans, group: &Group) -> u32
     ensures { λ r. ⌜ ((s : Bounds) → Spread (now (gaps .entry)) s (now (spans .entry)) → Crowding (now (gaps .entry)) s r) ⌝ }
 {
     let out = afters(gaps, spans, group);
@@ -118,7 +118,7 @@ pub fn taken(gaps: &Gaps, spans: &Spans, group: &Group) -> u32
 }
 
 // Whether a group takes more than the cycle, so that nobody obeys.
-pub fn crowded(gaps: &Gaps, bounds: &Bounds, group: &Group) -> bool
+pub(crate) fn crowded(gaps: &Gaps, bounds: &Bounds, group: &Group) -> bool
     ensures { λ r. ⌜ (r ≡ true → Nobody (now (gaps .entry)) (now (bounds .entry))) ⌝ }
 {
     let spans = spread(gaps, bounds);

@@ -46,7 +46,7 @@ fn grow(gaps: &Gaps, seed: usize) -> Group
     group
 }
 
-pub fn largest(gaps: &Gaps, bounds: &Bounds) -> Group {
+pub(crate) fn largest(gaps: &Gaps, bounds: &Bounds) -> Group {
     let spans = spread(gaps, bounds);
     let mut best = empty();
     let mut most = 0;

@@ -6,7 +6,7 @@ use crate::sizes::MOST;
 use crate::spacing::Gaps;
 
 // Whether the first is known to come before the second: it was put there, or the second can't come first.
-pub fn comes_first(gaps: &Gaps, bounds: &Bounds, first: usize, second: usize) -> bool
+pub(crate) fn comes_first(gaps: &Gaps, bounds: &Bounds, first: usize, second: usize) -> bool
     requires { ⌜ first < now gaps .count ⌝ ∗ ⌜ second < now gaps .count ⌝ }
     ensures { λ r. ⌜ Known (now (gaps .entry)) (now (bounds .entry)) first second r ⌝ }
 {

@@ -30,7 +30,7 @@ fn gap(setting: &Setting, first: usize, second: usize) -> u16
     setting.long[first] as u16 + clear as u16
 }
 
-pub fn measure(setting: &Setting) -> Gaps
+pub(crate) fn measure(setting: &Setting) -> Gaps
     ensures { λ r. ⌜ Measured (task-of (now (setting .entry))) r ⌝ }
 {
     let mut gaps = [0; PAIRS];

@@ -7,7 +7,7 @@ ghost use Rattle.placing.specs.Sizes.{most-greens};
 use crate::room::Bounds;
 
 // Has a green begin no earlier than a second, and says whether that moved its bound; none where it can then begin nowhere.
-pub fn raise(bounds: &mut Bounds, green: usize, to: u32) -> Option<bool>
+pub(crate) fn raise(bounds: &mut Bounds, green: usize, to: u32) -> Option<bool>
     requires { ⌜ green < most-greens ⌝ }
     ensures { λ r. ⌜ Cases r ((high-of (now (bounds .entry)) green < to) ⊎ (high-of (now (bounds .entry)) green < low-of (now (bounds .entry)) green)) (λ moved. Raised (now (bounds .entry)) (now (bounds .exit)) green to moved) ⌝ }
 {
@@ -24,7 +24,7 @@ pub fn raise(bounds: &mut Bounds, green: usize, to: u32) -> Option<bool>
 }
 
 // Has a green begin no later than a second, and says whether that moved its bound; none where it can then begin nowhere.
-pub fn lower(bounds: &mut Bounds, green: usize, to: u32) -> Option<bool>
+pub(crate) fn lower(bounds: &mut Bounds, green: usize, to: u32) -> Option<bool>
     requires { ⌜ green < most-greens ⌝ }
     ensures { λ r. ⌜ Cases r (to < low-of (now (bounds .entry)) green) (λ moved. Lowered (now (bounds .entry)) (now (bounds .exit)) green to moved) ⌝ }
 {

@@ -66,7 +66,7 @@ fn go_round(gaps: &Gaps, bounds: &mut Bounds) -> Option<bool>
 }
 
 // Narrows all bounds until nothing moves; none where that leaves a green nowhere to begin.
-pub fn narrow(gaps: &Gaps, bounds: &mut Bounds) -> Option<()>
+pub(crate) fn narrow(gaps: &Gaps, bounds: &mut Bounds) -> Option<()>
     ensures { λ r. ⌜ Cases r (Nobody (now (gaps .entry)) (now (bounds .entry))) (λ _. Narrowed (now (gaps .entry)) (now (bounds .entry)) (now (bounds .exit))) ⌝ }
 {
     loop {

@@ -26,7 +26,7 @@ fn put_before(gaps: &Gaps, bounds: Bounds, first: usize, second: usize) -> Optio
 }
 
 // Starts in order that obey the bounds; none where there are none.
-pub fn search(gaps: &Gaps, group: &Group, bounds: Bounds) -> Option<Starts>
+pub(crate) fn search(gaps: &Gaps, group: &Group, bounds: Bounds) -> Option<Starts>
     ensures { λ r. ⌜ Cases r (Nobody (now (gaps .entry)) bounds) (λ t. Found (now (gaps .entry)) bounds (start-of t)) ⌝ }
 {
     let mut narrowed = bounds;

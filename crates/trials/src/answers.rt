@@ -47,14 +47,14 @@ fn judged(junction: &Junction, plan: &Plan, said: u64) -> Answer {
     }
 }
 
-pub fn by_search(junction: &Junction) -> Answer {
+pub(crate) fn by_search(junction: &Junction) -> Answer {
     match best(junction) {
         Some(found) => judged(junction, &found.plan, found.spare as u64),
         None => Answer::None,
     }
 }
 
-pub fn by_trying(junction: &Junction) -> Answer {
+pub(crate) fn by_trying(junction: &Junction) -> Answer {
     match try_all(junction) {
         Tried::Best(found) => judged(junction, &found.plan, found.spare as u64),
         Tried::None => Answer::None,
@@ -74,7 +74,7 @@ fn plan_in(room: &[u8]) -> Plan {
 }
 
 // By the entry over lent numbers, which leaves its plan in the room.
-pub fn by_entry(
+pub(crate) fn by_entry(
     junction: &Junction,
     cycle: u64,
     pairs: &[u8],

@@ -90,7 +90,7 @@ impl Counts {
     }
 }
 
-pub fn compare_many(rt: &LibcRuntime, count: u32) -> Result<(), AnyError> {
+pub(crate) fn compare_many(rt: &LibcRuntime, count: u32) -> Result<(), AnyError> {
     let mut dice = Dice::new(SEED);
     let mut counts = Counts::new();
     for _ in 0..count {

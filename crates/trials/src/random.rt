@@ -10,12 +10,12 @@ pub struct Dice {
 }
 
 impl Dice {
-    pub fn new(seed: u64) -> Dice {
+    pub(crate) fn new(seed: u64) -> Dice {
         Dice { state: seed }
     }
 
     // A number from 0 to `most`, from the upper bits, which go round later than the lower ones.
-    pub fn roll(&mut self, most: u8) -> u8
+    pub(crate) fn roll(&mut self, most: u8) -> u8
         ensures { λ r. ⌜ r ≤ most ⌝ }
     {
         self.state = self.state
@@ -36,7 +36,7 @@ pub struct Numbers {
 
 impl Numbers {
     // Whether a stream asks for no green.
-    pub fn has_empty(&self) -> bool {
+    pub(crate) fn has_empty(&self) -> bool {
         let pairs = self.pairs.as_slice();
         for k in 0..pairs.len() / 2 {
             if pairs[2 * k] == 0 && pairs[2 * k + 1] == 0 {
@@ -47,12 +47,12 @@ impl Numbers {
     }
 
     // Whether a stream asks for the whole cycle.
-    pub fn has_whole(&self) -> bool {
+    pub(crate) fn has_whole(&self) -> bool {
         self.pairs.as_slice().contains(&self.cycle)
     }
 
     // Whether what has to be clear between two reaches round the cycle.
-    pub fn has_long_clearing(&self) -> bool {
+    pub(crate) fn has_long_clearing(&self) -> bool {
         for number in self.table.as_slice() {
             if *number > self.cycle {
                 return true;
@@ -63,7 +63,7 @@ impl Numbers {
 }
 
 // 1 to 3 streams in a cycle of 1 to 8 seconds, mostly crossing, with numbers from 0 to a little past the cycle.
-pub fn junction(heap: Global, dice: &mut Dice) -> Result<Numbers, AllocError> {
+pub(crate) fn junction(heap: Global, dice: &mut Dice) -> Result<Numbers, AllocError> {
     let cycle = dice.roll(7) + 1;
     let streams = dice.roll(2) + 1;
     // Few of the numbers are large: else hardly a junction would have a plan.

@@ -6,7 +6,7 @@ use crate::answers::by_trying;
 use crossing::Junction;
 use std::error::AnyError;
 
-pub fn show_all(rt: &LibcRuntime) -> Result<(), AnyError> {
+pub(crate) fn show_all(rt: &LibcRuntime) -> Result<(), AnyError> {
     let two = &[2, 3, 2, 2];
     let three = &[2, 2, 2, 2, 2, 2];
     show(rt, "two that cross", 12, two, &[0, 3, 3, 0])?;
