@@ -6,6 +6,8 @@ mod lights;
 #[cfg(test)]
 mod refusals;
 #[cfg(test)]
+mod sentences;
+#[cfg(test)]
 mod starts;
 #[cfg(test)]
 mod verdicts;
