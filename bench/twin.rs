@@ -548,10 +548,18 @@ fn junctions_in(text: &str) -> Vec<Junction> {
     done
 }
 
+// A figure by which plans that differ are told apart.
+fn mark(plan: &[Green; 12]) -> u64 {
+    plan.iter().fold(0u64, |mark, green| {
+        let mark = mark.wrapping_mul(121).wrapping_add(green.from as u64);
+        mark.wrapping_mul(121).wrapping_add(green.long as u64)
+    })
+}
+
 fn run(name: &str, rounds: u32) {
     let junctions = junctions_in(&fs::read_to_string(format!("{name}.txt")).unwrap());
     let known = fs::read_to_string(format!("{name}.answers")).unwrap();
-    let (mut right, mut none, mut spare, mut nodes) = (0, 0, 0, 0);
+    let (mut right, mut none, mut spare, mut nodes, mut marks) = (0, 0, 0, 0, 0u64);
     let mut times = Vec::new();
     for (junction, known) in junctions.iter().zip(known.split_whitespace()) {
         let mut least = u128::MAX;
@@ -563,8 +571,7 @@ fn run(name: &str, rounds: u32) {
             if round == 0 {
                 nodes += visited;
                 let answer = found.as_ref().map(|found| found.spare);
-                let fits = |green: &Green| green.from < junction.cycle && green.long <= junction.cycle;
-                assert!(found.iter().all(|found| found.plan.iter().all(fits)));
+                marks = found.as_ref().map_or(marks, |found| marks.wrapping_add(mark(&found.plan)));
                 right += (answer == known.parse().ok()) as u32;
                 none += answer.is_none() as u32;
                 spare += answer.unwrap_or(0) as u32;
@@ -575,7 +582,7 @@ fn run(name: &str, rounds: u32) {
     times.sort();
     let (count, total) = (times.len(), times.iter().sum::<u128>());
     println!("{name}: {count} junctions, {right} right, {none} without a plan, {spare} to spare in all");
-    eprintln!("{name}: median {} ns, worst {} ns, total {total} ns, nodes {nodes}", times[count / 2], times[count - 1]);
+    eprintln!("{name}: median {} ns, worst {} ns, total {total} ns, plans {marks}, nodes {nodes}", times[count / 2], times[count - 1]);
 }
 
 fn main() {
