@@ -81,7 +81,7 @@ impl Crowd {
         let mut sum = 0;
         for stream in 0..junction.count {
             let member = self.member[stream];
-            if member || (stream >= next && self.free[stream]) {
+            if member | ((stream >= next) & self.free[stream]) {
                 let long = junction.asked(spare, stream);
                 if long > 0 {
                     sum += (long + self.gaps[stream] as u16).min(cycle);
@@ -130,7 +130,7 @@ impl Crowd {
                 need += long + self.gap(junction, stream) as u16;
             }
         }
-        self.all_cross(junction) && want && need > junction.cycle as u16
+        self.all_cross(junction) & want & (need > junction.cycle as u16)
     }
 }
 
@@ -198,7 +198,7 @@ type Starts = [u8; MOST];
 fn gap(setting: &Setting, first: usize, second: usize) -> u16 {
     let there = setting.table[first * MOST + second];
     let back = setting.table[second * MOST + first];
-    let tied = first != second && setting.long[first] > 0 && setting.long[second] > 0 && (there > 0 || back > 0);
+    let tied = (first != second) & (setting.long[first] > 0) & (setting.long[second] > 0) & ((there > 0) | (back > 0));
     if tied { setting.long[first] as u16 + there.saturating_sub(1) as u16 } else { 0 }
 }
 
@@ -246,7 +246,7 @@ struct Clash {
 impl Gaps {
     fn comes_first(&self, bounds: &Bounds, first: usize, second: usize) -> bool {
         let back = self.gap[second * MOST + first] as u32;
-        bounds.before[first * MOST + second] || bounds.low[second] as u32 + back > bounds.high[first] as u32
+        bounds.before[first * MOST + second] | (bounds.low[second] as u32 + back > bounds.high[first] as u32)
     }
 
     fn distance(&self, bounds: &Bounds, first: usize, second: usize) -> u32 {
@@ -264,7 +264,7 @@ impl Gaps {
         let earliest = (bounds.low[first] as u32 + far).saturating_sub(round);
         let raised = bounds.raise(second, earliest)?;
         let lowered = bounds.lower(first, last - far)?;
-        Some(raised || lowered)
+        Some(raised | lowered)
     }
 
     fn go_round(&self, bounds: &mut Bounds) -> Option<bool> {
