@@ -18,14 +18,15 @@ for turn in 1 2 3 4 5; do
     cmp "$out/proved.answers" "$out/twin.answers"
 done
 
-# A line of times reads: FAMILY: median N ns, worst N ns, total N ns[, nodes N]
+# A line of times reads: FAMILY: median N ns, worst N ns, total N ns, plans MARK[, nodes N]
 awk -F '[: ,]+' '
     function least(old, new) { return old == "" || new < old ? new : old }
     function us(ns) { return sprintf("%.1f", ns / 1000) }
     {
         who = NR == FNR ? "proved" : "twin"
-        if (who == "proved" && !($1 in nodes)) family[++families] = $1
-        nodes[$1] = $12
+        if (!($1 in plans)) { family[++families] = $1; plans[$1] = $12 }
+        if (plans[$1] "" != $12 "") { print "the plans of " $1 " differ"; failed = 1; exit }
+        nodes[$1] = $14
         median[who, $1] = least(median[who, $1], $3 + 0)
         worst[who, $1] = least(worst[who, $1], $6 + 0)
         total[who, $1] = least(total[who, $1], $9 + 0)
@@ -33,6 +34,7 @@ awk -F '[: ,]+' '
     function figures(who, name) { return us(median[who, name]) ", " us(worst[who, name]) }
     function ratio(figure, name) { return sprintf("%.2f", figure["proved", name] / figure["twin", name]) }
     END {
+        if (failed) exit 1
         print "| family | nodes | proved: median, worst (µs) | twin: median, worst (µs) | ratio of medians | of totals |"
         print "|---|---|---|---|---|---|"
         for (i = 1; i <= families; i++) {

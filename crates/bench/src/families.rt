@@ -24,7 +24,7 @@ impl Sums {
     }
 }
 
-fn show_times(rt: &LibcRuntime, name: &str, times: &[u64]) -> Result<(), AnyError> {
+fn show_times(rt: &LibcRuntime, name: &str, times: &[u64], marks: u64) -> Result<(), AnyError> {
     let count = times.len();
     let mut total: u64 = 0;
     for nanos in times {
@@ -35,7 +35,7 @@ fn show_times(rt: &LibcRuntime, name: &str, times: &[u64]) -> Result<(), AnyErro
         let worst = times[count - 1];
         eprintln!(
             rt,
-            "{name}: median {median} ns, worst {worst} ns, total {total} ns"
+            "{name}: median {median} ns, worst {worst} ns, total {total} ns, plans {marks}"
         )?;
     }
     Ok(())
@@ -49,9 +49,11 @@ pub(crate) fn run(rt: &LibcRuntime, name: &str, rounds: u32) -> Result<(), AnyEr
         spare: 0,
     };
     let mut times = Vec::new(rt.alloc());
+    let mut marks: u64 = 0;
     for (junction, known) in family.junctions.iter().zip(family.answers.iter()) {
         let timed = time(rt, junction, rounds)?;
         sums.add(timed.spare, *known);
+        marks = marks.wrapping_add(timed.mark);
         times.push(timed.nanos)?;
     }
     times.sort();
@@ -61,5 +63,5 @@ pub(crate) fn run(rt: &LibcRuntime, name: &str, rounds: u32) -> Result<(), AnyEr
         rt,
         "{name}: {count} junctions, {right} right, {none} without a plan, {spare} to spare in all"
     )?;
-    show_times(rt, name, times.as_slice())
+    show_times(rt, name, times.as_slice(), marks)
 }
