@@ -1,4 +1,6 @@
 // The benchmark: the search on families of junctions whose answers are known. Answers go to standard output, timings to standard error.
+#![tactic(auto)]
+
 mod families;
 mod reading;
 mod rounds;

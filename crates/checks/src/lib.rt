@@ -1,4 +1,6 @@
 // What greens, refusals and verdicts are at their edges, with each expected answer written out. There is nothing here but tests.
+#![tactic(auto)]
+
 #[cfg(test)]
 mod apartness;
 #[cfg(test)]

@@ -1,8 +1,8 @@
 -- Taking tests over the numbers below a number apart, and putting them together.
-use Rattle.std.proofs.Common.{◌≡◌, ℕ, zero, suc, ◌+◌, ◌<◌, ◌≤◌, min, Bool, true, false, cond, ◌&&◌, Decides, refl, ⊎_elim, add-one, arith}
+use Rattle.std.proofs.Common.{◌≡◌, ℕ, zero, suc, ◌+◌, ◌<◌, ◌≤◌, min, Bool, true, false, Decides, refl, ⊎_elim, add-one, arith}
 use Rattle.std.proofs.lemmas.Bool.{both_ways, cases_Bool, cases_eq, cases_order}
 use Rattle.std.proofs.lemmas.Bool.Decides.{Decides-below_and, nat_tests}
-use Rattle.crossing.specs.Below.{all_to, first_to, least_to, sum_to}
+use Rattle.crossing.specs.Below.{all_to, first_to, least_to}
 
 all_decides : (n : ℕ) (test : ℕ → Bool) → Decides (all_to n test) ((k : ℕ) → k < n → test k ≡ true)
 unfolding all_to

@@ -1,13 +1,12 @@
 -- Streams that are too close, looked for second by second and row by row.
-use Rattle.std.proofs.Common.{◌≡◌, ℕ, ◌-◌, ◌<◌, ◌≤◌, Bool, true, false, not, ◌&&◌, eqb, ltb, List, length, get_or, sym, refl, ap, ◌∙◌, arith}
-use Rattle.std.proofs.lemmas.Bool.{and_from, lt-ltb, ltb-true, ltb-false, ne_eqb, not_from_false, both_ways, cases_lt}
+use Rattle.std.proofs.Common.{◌≡◌, ℕ, ◌-◌, ◌<◌, true, not, ◌&&◌, eqb, ltb, List, get_or, ap, ◌∙◌}
+use Rattle.std.proofs.lemmas.Bool.{and_from, lt-ltb, ne_eqb, not_from_false}
 use Rattle.greens.specs.declared.seconds.Cycle.{Cycle}
 use Rattle.crossing.specs.declared.junctions.Junction.{Junction}
-use Rattle.crossing.specs.Below.{first_to}
-use Rattle.crossing.specs.Site.{Site, Greens}
+use Rattle.crossing.specs.Site.{Greens}
 use Rattle.crossing.specs.Good.{close}
 use Rattle.crossing.specs.Taken.{site_of, row_in}
-use Rattle.crossing.specs.Verdicts.{clash, row_clash, close_in_row, close_next, close_first, close_second}
+use Rattle.crossing.specs.Verdicts.{clash, row_clash, close_in_row, close_next}
 use Rattle.crossing.proofs.Below.{first_same}
 use Rattle.crossing.proofs.Rows.{row_there, row_holds}
 

@@ -1,7 +1,7 @@
 -- Faults of a table, looked for row by row.
 use Rattle.std.proofs.Common.{◌≡◌, ℕ, ◌+◌, ◌*◌, ◌<◌, eqb, List, length, get_or, ap, ◌∙◌, arith}
 use Rattle.crossing.specs.Numbers.{at_fault, fault}
-use Rattle.crossing.specs.Tables.{row_of, entry}
+use Rattle.crossing.specs.Tables.{row_of}
 use Rattle.crossing.proofs.Rows.{row_entry, row_ends}
 
 -- a row's number and the one the other way tell whether the table is at fault there

@@ -1,5 +1,5 @@
 -- Taking `good`, `enough` and `apart` apart, and putting them together.
-use Rattle.std.proofs.Common.{◌≡◌, ℕ, ◌+◌, ◌-◌, ◌<◌, ◌≤◌, Bool, true, false, not, ◌&&◌, ◌||◌, eqb, ltb, leb, refl, ⊎_elim, arith}
+use Rattle.std.proofs.Common.{◌≡◌, ℕ, ◌+◌, ◌<◌, ◌≤◌, Bool, true, false, not, ◌&&◌, ◌||◌, eqb, ltb, leb, ⊎_elim, arith}
 use Rattle.std.proofs.lemmas.Bool.{and_parts, and_from, ltb-true, leb-true, lt-ltb, le-leb, ne_eqb, not-true, not_from_false, eq-eqb, cases_Bool, cases_eq, cases_lt}
 use Rattle.std.proofs.lemmas.Bool.Decides.{nat_tests}
 use Rattle.greens.specs.declared.lights.Green.{Green}
@@ -7,7 +7,7 @@ use Rattle.greens.specs.Circle.{after}
 use Rattle.greens.specs.Greens.{on}
 use Rattle.crossing.specs.Below.{all_to}
 use Rattle.crossing.specs.Site.{Site, Greens}
-use Rattle.crossing.specs.Good.{close, apart, fits, good, enough, spare, worst}
+use Rattle.crossing.specs.Good.{close, apart, fits, good, enough}
 use Rattle.crossing.proofs.Below.{all_out, all_in}
 
 -- what a fitting green is

@@ -1,5 +1,5 @@
 -- Who waits: while a queue can't run empty, it grows by those who come and shrinks by one in each green second.
-use Rattle.std.proofs.Common.{◌≡◌, ℕ, zero, suc, ◌+◌, ◌-◌, ◌<◌, ◌≤◌, Bool, cond, refl, arith}
+use Rattle.std.proofs.Common.{◌≡◌, ℕ, zero, suc, ◌+◌, ◌-◌, ◌≤◌, Bool, arith}
 use Rattle.std.proofs.lemmas.Bool.{cond_both}
 use Rattle.greens.specs.Greens.{on, count_to}
 use Rattle.greens.proofs.Counts.{count_within, as_long}

@@ -1,12 +1,12 @@
 -- What is known of numbers by the refusals that apply to them, and by those that don't.
-use Rattle.std.proofs.Common.{◌≡◌, ℕ, ◌+◌, ◌*◌, ◌<◌, ◌≤◌, Bool, true, false, cond, not, ◌||◌, eqb, ltb, leb, List, length, get_or, Some, None, Option, sym, refl, ap, ◌∙◌, ⊎_elim, arith}
+use Rattle.std.proofs.Common.{◌≡◌, ℕ, ◌+◌, ◌*◌, ◌<◌, ◌≤◌, Bool, true, false, cond, not, ◌||◌, eqb, ltb, List, length, get_or, Some, None, Option, refl, ⊎_elim, arith}
 use Rattle.std.proofs.lemmas.Bool.{or_parts, or_from, ltb-false, eqb-true, not-false, le-ltb, lt-ltb, or_left, or_right, cases_Bool, cases_lt}
 use Rattle.std.proofs.lemmas.Bool.Decides.{nat_tests}
 use Rattle.crossing.specs.declared.refusals.Refusal.{Refusal}
 use Rattle.crossing.specs.declared.refusals.Refusal.TheVariants.{Cycle, Room}
 use Rattle.crossing.specs.Below.{all_to}
-use Rattle.crossing.specs.Tables.{entry, crossing, both_ways}
-use Rattle.crossing.specs.Numbers.{refusal, streams_refusal, table_refusal, room_refusal, or_else, first_above, faulty_row, faulty_column, fault}
+use Rattle.crossing.specs.Tables.{crossing, both_ways}
+use Rattle.crossing.specs.Numbers.{refusal, streams_refusal, table_refusal, room_refusal, or_else, faulty_row, faulty_column, fault}
 use Rattle.crossing.proofs.Below.{all_in, first_below}
 
 pub cycle_refused : (c n : ℕ) (pairs table : List ℕ) → ((1 ≤ c) × (c ≤ 120) → ⊥) → refusal c n pairs table ≡ Some (Cycle c)

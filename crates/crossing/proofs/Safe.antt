@@ -1,5 +1,5 @@
 -- In a good plan two streams that cross are never green together, nor one too soon after the other, wherever the plan begins.
-use Rattle.std.proofs.Common.{◌≡◌, ℕ, ◌+◌, ◌%◌, ◌<◌, ◌≤◌, true, false, ltb, refl, ◌∙◌, mod-lt, arith}
+use Rattle.std.proofs.Common.{◌≡◌, ℕ, ◌+◌, ◌%◌, ◌<◌, ◌≤◌, true, refl, mod-lt, arith}
 use Rattle.std.proofs.lemmas.Bool.{ltb-true}
 use Rattle.greens.specs.declared.lights.Green.{Green}
 use Rattle.greens.specs.Circle.{after}
@@ -7,8 +7,7 @@ use Rattle.greens.specs.Greens.{on}
 use Rattle.greens.specs.Rounds.{later}
 use Rattle.greens.proofs.Circle.{after_below}
 use Rattle.greens.proofs.Turns.{after_turned}
-use Rattle.crossing.specs.Site.{Site, Greens}
-use Rattle.crossing.specs.Good.{apart, good, spare, worst}
+use Rattle.crossing.specs.Good.{apart, spare, worst}
 use Rattle.crossing.specs.Laws.{NeverTogether, Cleared, Turned}
 use Rattle.crossing.proofs.Good.{apart_out, apart_in, good_out, good_in}
 

@@ -1,5 +1,5 @@
 -- Tests and figures over the numbers below a number. Assumes nothing: these are definitions.
-use Rattle.std.specs.Prelude.{ℕ, zero, suc, ◌+◌, min, Bool, true, false, cond, ◌&&◌, nat_lt}
+use Rattle.std.specs.Prelude.{ℕ, zero, suc, ◌+◌, min, Bool, true, cond, ◌&&◌, nat_lt}
 
 -- each number below n passes the test
 unfoldable pub all_to : (n : ℕ) → (ℕ → Bool) → Bool

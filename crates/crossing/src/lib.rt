@@ -1,4 +1,6 @@
 // A junction and the plans for it: what crosses, what has to be clear, whether a plan is good. Finding one is left to the layers above.
+#![tactic(auto)]
+
 mod asked;
 mod judging;
 mod junctions;

@@ -1,4 +1,6 @@
 // Greens on a cycle: seconds that go round, and in which of them a green is on. What crosses is left to the layers above.
+#![tactic(auto)]
+
 mod lights;
 mod plans;
 mod seconds;

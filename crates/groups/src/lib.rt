@@ -1,4 +1,6 @@
 // Groups of streams that all cross each other, and what they need of the cycle that they share. Which greens they get is left to the layers above.
+#![tactic(auto)]
+
 mod asking;
 mod clearing;
 mod crowds;

@@ -1,4 +1,6 @@
 // Starts for greens of given lengths: which keep all that crosses apart, or that there are none. Which lengths is left to the layers above.
+#![tactic(auto)]
+
 mod answers;
 mod clashing;
 mod crowding;

@@ -1,4 +1,6 @@
 // A best plan for a junction, or that there is none. Words are left to the layers above.
+#![tactic(auto)]
+
 mod entry;
 mod finding;
 mod laws;

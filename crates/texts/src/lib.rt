@@ -1,4 +1,6 @@
 // Words: junctions read from a text, and plans, rings and refusals printed. Files and arguments are left to the program above.
+#![tactic(auto)]
+
 mod answers;
 mod drafts;
 mod laws;

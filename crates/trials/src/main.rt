@@ -1,4 +1,5 @@
 // Trials: worked junctions, and random small ones on which the search has to agree with all plans tried.
+#![tactic(auto)]
 
 mod answers;
 mod comparing;

@@ -1,4 +1,6 @@
 // The program: junctions from a file or from standard input, a line for each of them, and rings if they are asked for.
+#![tactic(auto)]
+
 mod answering;
 
 use answering::answer_all;

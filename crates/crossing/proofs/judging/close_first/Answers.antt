@@ -7,8 +7,8 @@ use Rattle.crossing.proofs.Below.{first_is, first_none}
 use Rattle.crossing.proofs.Clashes.{row_told}
 use Rattle.crossing.proofs.judging.close_first.Goals as goal
 
-pub returns-then-close-in-row-count : goal.returns-then-close-in-row-count
-returns-then-close-in-row-count c =
+pub returns-then-close_in_row-count : goal.returns-then-close_in_row-count
+returns-then-close_in_row-count c =
     let told = row_told c.args.junction.now (green_of c.args.plan.now.greens) c.cycle.result c.row.result.now c.loop-a.a c.args.second
     c.close_in_row.result c.cycle.ensures c.row.ensures (omega arith) c.close_in_row.ensures
     in

@@ -7,8 +7,8 @@ use Rattle.crossing.specs.Verdicts.{close_first}
 use Rattle.crossing.proofs.Below.{first_is, first_none}
 use Rattle.crossing.proofs.judging.close_second.Goals as goal
 
-pub returns-then-close-first-streams : goal.returns-then-close-first-streams
-returns-then-close-first-streams c =
+pub returns-then-close_first-streams : goal.returns-then-close_first-streams
+returns-then-close_first-streams c =
     let seconds : c.seconds-seconds.result ≡ c.args.junction.now.cycle.seconds = c.seconds-seconds.ensures ∙ ap (λ (x : Cycle). x.seconds) c.cycle.ensures in
     first_is c.args.junction.now.cycle.seconds
     (λ s. ltb (close_first (site_of c.args.junction.now) (green_of c.args.plan.now.greens) s) c.args.junction.now.count) c.loop-second.second (omega arith)

@@ -4,12 +4,12 @@ use Rattle.crossing.specs.Good.{apart, close}
 use Rattle.crossing.proofs.Below.{all_in, all_fails}
 use Rattle.crossing.proofs.keeping.apart.Goals as goal
 
-pub returns-then-too-close : goal.returns-then-too-close
+pub returns-then-too_close : goal.returns-then-too_close
 unfolding apart
-returns-then-too-close c =
+returns-then-too_close c =
     sym
     (all_fails c.args.cycle.seconds (λ s. not (close c.args.cycle.seconds c.args.clear c.args.first c.args.next s)) c.loop-second.second (omega arith)
-    (not_from_true _ (sym c.too-close.ensures ∙ c.if-too-close.true)))
+    (not_from_true _ (sym c.too_close.ensures ∙ c.if-too_close.true)))
 
 pub returns : goal.returns
 unfolding apart

@@ -1,4 +1,4 @@
-use Rattle.std.proofs.Common.{◌≡◌, leb, sym, ap, arith}
+use Rattle.std.proofs.Common.{leb, sym, ap, arith}
 use Rattle.std.proofs.lemmas.Bool.{lt-leb}
 use Rattle.greens.specs.declared.lights.Green.{Green}
 use Rattle.greens.specs.Plans.{green_of}

@@ -1,4 +1,4 @@
-use Rattle.std.proofs.Common.{◌≡◌, sym, ap, ◌∙◌, arith}
+use Rattle.std.proofs.Common.{◌≡◌, ap, ◌∙◌, arith}
 use Rattle.greens.specs.declared.lights.Green.{Green}
 use Rattle.greens.specs.declared.seconds.Cycle.{Cycle}
 use Rattle.greens.specs.Plans.{green_of}
@@ -22,7 +22,7 @@ loop-k-preserved c =
       arith,
       long,
       comes,
-      c.saturating-sub-spare.ensures,
+      c.saturating_sub-spare.ensures,
       least_more c.loop-k.k (spare (site_of c.args.self.now) (green_of c.args.plan.now.greens)) c.args.self.now.cycle.seconds,
     )
 

@@ -1,4 +1,3 @@
-use Rattle.std.proofs.Common.{rules}
 use Rattle.greens.specs.Greens.{on}
 use Rattle.greens.proofs.lights.Green.on.Goals as goal
 

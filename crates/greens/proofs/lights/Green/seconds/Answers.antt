@@ -4,8 +4,8 @@ use Rattle.greens.proofs.Counts.{count_none, count_more, count_within, as_long}
 use Rattle.greens.proofs.lights.Green.seconds.Goals as goal
 use Rattle.greens.proofs.lights.Green.seconds.Goals.{then-on, else-on}
 
-pub overflow-add-count : goal.overflow-add-count
-overflow-add-count c = omega (arith, count_within c.loop-second.second (on c.args.cycle.seconds c.args.self))
+pub overflow_add-count : goal.overflow_add-count
+overflow_add-count c = omega (arith, count_within c.loop-second.second (on c.args.cycle.seconds c.args.self))
 
 pub loop-second-init : goal.loop-second-init
 loop-second-init c = rw count_none
