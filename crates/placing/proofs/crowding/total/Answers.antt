@@ -7,5 +7,5 @@ use Rattle.placing.proofs.crowding.total.Goals as goal
 pub loop-green-preserved : goal.loop-green-preserved
 loop-green-preserved c =
     let more = sum_more c.loop-green.green (λ k. margin_of c.args.out.now k + margin_of c.args.into.now k) in
-    let counted : c.saturating-add-sum.result ≤ sum_to (c.loop-green.green + 1) (λ k. margin_of c.args.out.now k + margin_of c.args.into.now k) = omega arith in
+    let counted : c.saturating_add-sum.result ≤ sum_to (c.loop-green.green + 1) (λ k. margin_of c.args.out.now k + margin_of c.args.into.now k) = omega arith in
     counted

@@ -8,13 +8,13 @@ use Rattle.placing.proofs.measuring.gap.Goals as goal
 clear_is : (n : ℕ) → cond (ltb 0 n) (n - 1) 0 ≡ n - 1
 clear_is n = cond_both (ltb 0 n) (n - 1) 0 (λ x. x ≡ n - 1) (λ e. omega arith) (λ e. omega (arith, ltb-false 0 n e))
 
-pub returns-then-not-are-tied : goal.returns-then-not-are-tied
-returns-then-not-are-tied c = sym (gap_free (task_of c.args.setting.now) c.args.first c.args.second (sym c.if-not-are-tied.ensures))
+pub returns-then-not-are_tied : goal.returns-then-not-are_tied
+returns-then-not-are_tied c = sym (gap_free (task_of c.args.setting.now) c.args.first c.args.second (sym c.if-not-are_tied.ensures))
 
 pub returns : goal.returns
 returns c =
     omega (
       arith,
-      gap_tied (task_of c.args.setting.now) c.args.first c.args.second (sym c.if-not-are-tied.ensures),
+      gap_tied (task_of c.args.setting.now) c.args.first c.args.second (sym c.if-not-are_tied.ensures),
       clear_is (entry_of c.args.setting.now c.args.first c.args.second),
     )
