@@ -8,5 +8,5 @@ use Rattle.texts.proofs.refusing.put_refusal.Goals as goal
 pub returns : goal.returns
 returns c =
     refusal_line _ (told_of c.args.section.now).name c.args.refusal _
-    (adds_as _ _ (ap title_words c.name.ensures) c.in-ok-put-title.ensures)
-    c.in-ok-put-refused.ensures c.in-ok-say-why.ensures c.put.ensures
+    (adds_as _ _ (ap title_words c.name.ensures) c.in_ok-put_title.ensures)
+    c.in_ok-put_refused.ensures c.in_ok-say_why.ensures c.put.ensures

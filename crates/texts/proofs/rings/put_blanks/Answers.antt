@@ -6,4 +6,4 @@ pub loop-blank-init : goal.loop-blank-init
 loop-blank-init c = adds_none (vec_items c.args.out.now)
 
 pub loop-blank-preserved : goal.loop-blank-preserved
-loop-blank-preserved c = blanks_more c.loop-blank.blank c.loop-blank.invariant c.in-ok-put.ensures
+loop-blank-preserved c = blanks_more c.loop-blank.blank c.loop-blank.invariant c.in_ok-put.ensures

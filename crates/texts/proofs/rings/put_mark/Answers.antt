@@ -6,4 +6,4 @@ use Rattle.texts.proofs.rings.put_mark.Goals as goal
 
 pub returns : goal.returns
 returns c =
-    then_put _ _ _ (adds_as _ _ (ap blanks (c.saturating-sub.ensures ∙ ap (λ n. 10 - n) c.in-ok-long.ensures)) c.in-ok-put-blanks.ensures) c.put-number.ensures
+    then_put _ _ _ (adds_as _ _ (ap blanks (c.saturating_sub.ensures ∙ ap (λ n. 10 - n) c.in_ok-long.ensures)) c.in_ok-put_blanks.ensures) c.put_number.ensures

@@ -8,4 +8,4 @@ unfolding marks_to
 loop-ten-init c = adds_none (vec_items c.args.out.now)
 
 pub loop-ten-preserved : goal.loop-ten-preserved
-loop-ten-preserved c = marks_more c.loop-ten.ten c.loop-ten.invariant c.in-ok-put-mark.ensures
+loop-ten-preserved c = marks_more c.loop-ten.ten c.loop-ten.invariant c.in_ok-put_mark.ensures

@@ -10,5 +10,5 @@ use Rattle.texts.proofs.rings.put_rings.Goals as goal
 pub returns : goal.returns
 returns c =
     IfOk-weaker _ _ _
-    (λ _ h. adds_as _ _ (ap (λ w. scale_row w c.args.cycle.seconds ++ each_from (ring_row w c.args.cycle.seconds) (map (λ x. x.now) c.args.names.now) 0 (green_of c.args.plan.now.greens)) c.widest-of-width.ensures) h)
-    (then_put _ _ _ c.in-ok-put-scale.ensures c.put-rows.ensures)
+    (λ _ h. adds_as _ _ (ap (λ w. scale_row w c.args.cycle.seconds ++ each_from (ring_row w c.args.cycle.seconds) (map (λ x. x.now) c.args.names.now) 0 (green_of c.args.plan.now.greens)) c.widest_of-width.ensures) h)
+    (then_put _ _ _ c.in_ok-put_scale.ensures c.put_rows.ensures)

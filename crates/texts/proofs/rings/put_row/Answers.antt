@@ -6,6 +6,6 @@ use Rattle.texts.proofs.rings.put_row.Goals as goal
 
 pub returns : goal.returns
 returns c =
-    then_put _ _ _ c.in-ok-put.ensures
-    (then_put _ _ _ (adds_as _ _ (ap blanks (c.saturating-sub.ensures ∙ ap (λ n. c.args.width - n) c.width-of.ensures.is)) c.in-ok-put-blanks.ensures)
-    (then_put _ _ _ c.in-ok-put-2.ensures (then_put _ _ _ c.in-ok-put-signs.ensures c.put-3.ensures)))
+    then_put _ _ _ c.in_ok-put.ensures
+    (then_put _ _ _ (adds_as _ _ (ap blanks (c.saturating_sub.ensures ∙ ap (λ n. c.args.width - n) c.width_of.ensures.is)) c.in_ok-put_blanks.ensures)
+    (then_put _ _ _ c.in_ok-put-2.ensures (then_put _ _ _ c.in_ok-put_signs.ensures c.put-3.ensures)))

@@ -7,7 +7,7 @@ use Rattle.texts.proofs.rings.put_rows.Goals as goal
 pub loop-k-preserved : goal.loop-k-preserved
 loop-k-preserved c =
     each_more (ring_row c.args.width c.args.cycle.seconds) c.args.names.now (green_of c.args.plan.now.greens) c.loop-k.k _ (vec_items c.loop-k.out) _ _ (omega arith)
-    (rw c.green.ensures at c.in-ok-put-row.ensures) c.loop-k.invariant
+    (rw c.green.ensures at c.in_ok-put_row.ensures) c.loop-k.invariant
 
 pub returns : goal.returns
 returns c = record { is = each_all (ring_row c.args.width c.args.cycle.seconds) c.args.names.now (green_of c.args.plan.now.greens) c.loop-k.k _ _ (omega arith) c.loop-k.invariant }

@@ -6,6 +6,6 @@ use Rattle.texts.proofs.rings.put_scale.Goals as goal
 
 pub returns : goal.returns
 returns c =
-    then_put _ _ _ c.in-ok-put-blanks.ensures
-    (then_put _ _ _ c.in-ok-put.ensures
-    (then_put _ _ _ (adds_as _ _ (ap marks_to (c.from.ensures ∙ ap (λ n. (n - 1) / 10) c.seconds.ensures)) c.in-ok-put-marks.ensures) c.put-2.ensures))
+    then_put _ _ _ c.in_ok-put_blanks.ensures
+    (then_put _ _ _ c.in_ok-put.ensures
+    (then_put _ _ _ (adds_as _ _ (ap marks_to (c.from.ensures ∙ ap (λ n. (n - 1) / 10) c.seconds.ensures)) c.in_ok-put_marks.ensures) c.put-2.ensures))

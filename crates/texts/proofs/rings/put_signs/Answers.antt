@@ -12,7 +12,7 @@ loop-second-init c = adds_none (vec_items c.args.out.now)
 
 pub loop-second-preserved : goal.loop-second-preserved
 loop-second-preserved c =
-    let pushed = chosen _ _ _ _ c.push.ensures.items (ap is_ok c.in-ok-push.was) in
+    let pushed = chosen _ _ _ _ c.push.ensures.items (ap is_ok c.in_ok-push.was) in
     signs_more (vec_items c.push.new.self) c.args.cycle.seconds c.args.green c.loop-second.second _ c.loop-second.invariant pushed
     (elim c.if-on.branch [
       | then-on w ↦ w.sign-is ∙ sym (cond-true _ 35 46 (sym c.on.ensures ∙ w.if-on.true))

@@ -6,12 +6,12 @@ use Rattle.texts.proofs.wording.blanks.Goals as goal
 pub loop-count-preserved : goal.loop-count-preserved
 loop-count-preserved c = (
   omega arith,
-  front_more blank c.args.line.now c.loop-count.count c.loop-count.invariant.1 (omega arith) (sym c.is-blank.ensures ∙ c.if-is-blank.true),
+  front_more blank c.args.line.now c.loop-count.count c.loop-count.invariant.1 (omega arith) (sym c.is_blank.ensures ∙ c.if-is_blank.true),
 )
 
-pub returns-else-is-blank : goal.returns-else-is-blank
-returns-else-is-blank c = record {
-  is = front_stops blank c.args.line.now c.loop-count.count c.loop-count.invariant.1 (omega arith) (sym c.is-blank.ensures ∙ c.if-is-blank.false);
+pub returns-else-is_blank : goal.returns-else-is_blank
+returns-else-is_blank c = record {
+  is = front_stops blank c.args.line.now c.loop-count.count c.loop-count.invariant.1 (omega arith) (sym c.is_blank.ensures ∙ c.if-is_blank.false);
   within = c.loop-count.invariant.0;
 }
 

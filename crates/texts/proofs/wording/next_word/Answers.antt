@@ -4,10 +4,10 @@ use Rattle.texts.proofs.wording.next_word.Goals as goal
 
 pub returns-then-end-eq0 : goal.returns-then-end-eq0
 returns-then-end-eq0 c =
-    word_none c.args.line.now _ c.blanks.result c.word-end-end.result c.blanks.ensures.is refl c.word-end-end.ensures.is c.if-end-eq0.true
+    word_none c.args.line.now _ c.blanks.result c.word_end-end.result c.blanks.ensures.is refl c.word_end-end.ensures.is c.if-end-eq0.true
 
 pub returns-else-end-eq0 : goal.returns-else-end-eq0
 returns-else-end-eq0 c = (
-  word_cut c.args.line.now _ c.blanks.result c.word-end-end.result c.blanks.ensures.is refl c.word-end-end.ensures.is (omega (arith, c.if-end-eq0.false)),
-  simp (length-take, length-drop) (omega (arith, c.if-end-eq0.false, c.word-end-end.ensures.within, c.blanks.ensures.within)),
+  word_cut c.args.line.now _ c.blanks.result c.word_end-end.result c.blanks.ensures.is refl c.word_end-end.ensures.is (omega (arith, c.if-end-eq0.false)),
+  simp (length-take, length-drop) (omega (arith, c.if-end-eq0.false, c.word_end-end.ensures.within, c.blanks.ensures.within)),
 )

@@ -8,20 +8,20 @@ pub loop-end-preserved : goal.loop-end-preserved
 loop-end-preserved c = (
   omega arith,
   front_more (λ b. not (blank b || eqb b 35)) c.args.line.now c.loop-end.end c.loop-end.invariant.1 (omega arith)
-      (rw (sym c.is-blank.ensures ∙ c.if-not-is-blank.true, ne_eqb _ _ c.if-line-end-ne35.true)),
+      (rw (sym c.is_blank.ensures ∙ c.if-not-is_blank.true, ne_eqb _ _ c.if-line-end-ne35.true)),
 )
 
 pub returns-else-line-end-ne35 : goal.returns-else-line-end-ne35
 returns-else-line-end-ne35 c = record {
   is = front_stops (λ b. not (blank b || eqb b 35)) c.args.line.now c.loop-end.end c.loop-end.invariant.1 (omega arith)
-      (rw (sym c.is-blank.ensures ∙ c.if-not-is-blank.true, eq-eqb _ _ c.if-line-end-ne35.false));
+      (rw (sym c.is_blank.ensures ∙ c.if-not-is_blank.true, eq-eqb _ _ c.if-line-end-ne35.false));
   within = c.loop-end.invariant.0;
 }
 
-pub returns-else-not-is-blank : goal.returns-else-not-is-blank
-returns-else-not-is-blank c = record {
+pub returns-else-not-is_blank : goal.returns-else-not-is_blank
+returns-else-not-is_blank c = record {
   is = front_stops (λ b. not (blank b || eqb b 35)) c.args.line.now c.loop-end.end c.loop-end.invariant.1 (omega arith)
-      (rw (sym c.is-blank.ensures ∙ c.if-not-is-blank.false));
+      (rw (sym c.is_blank.ensures ∙ c.if-not-is_blank.false));
   within = c.loop-end.invariant.0;
 }
 

@@ -9,6 +9,6 @@ returns c =
     let draft = c.args.self.now in
     let count : c.len-count.result ≡ length (map (λ x. x.now) (vec_items draft.names)) = c.len-count.ensures ∙ draft.names.ok.0 ∙ sym (length-map (vec_items draft.names) (λ x. x.now)) in
     read_same _ (unwrap_or draft.cycle 0) _ (length (map (λ x. x.now) (vec_items draft.names))) _ (vec_items draft.figures) _ (table_said (length (map (λ x. x.now) (vec_items draft.names))) (vec_items draft.clearings)) _
-    c.unwrap-or-cycle.ensures count c.as-slice-2.ensures.value
-    (c.as-slice-3.ensures.value ∙ c.in-ok-table.ensures ∙ ap (λ n. table_said n c.as-slice.result.now) count ∙ ap (table_said (length (map (λ x. x.now) (vec_items draft.names)))) c.as-slice.ensures.value)
+    c.unwrap_or-cycle.ensures count c.as_slice-2.ensures.value
+    (c.as_slice-3.ensures.value ∙ c.in_ok-table.ensures ∙ ap (λ n. table_said n c.as_slice.result.now) count ∙ ap (table_said (length (map (λ x. x.now) (vec_items draft.names)))) c.as_slice.ensures.value)
     c.read.ensures
