@@ -13,7 +13,7 @@ loop-stream-init c =
 pub loop-stream-preserved : goal.loop-stream-preserved
 loop-stream-preserved c =
     all_more c.loop-stream.stream (λ a. all_to c.args.junction.now.count (meets (site_of c.args.junction.now) (member_of c.args.self.now) a))
-    c.meets-all-all.result c.loop-stream.all (c.meets-all-all.ensures (omega arith)) c.loop-stream.invariant
+    c.meets_all-all.result c.loop-stream.all (c.meets_all-all.ensures (omega arith)) c.loop-stream.invariant
 
 pub returns : goal.returns
 unfolding all_cross

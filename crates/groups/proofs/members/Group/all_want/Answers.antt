@@ -1,6 +1,6 @@
 use Rattle.std.proofs.Common.{◌≡◌, not, ◌||◌, ltb, sym}
 use Rattle.crossing.specs.Taken.{site_of}
-use Rattle.groups.specs.Groups.{asked, wants}
+use Rattle.groups.specs.Groups.{wants}
 use Rattle.groups.specs.Members.{member_of}
 use Rattle.groups.proofs.Every.{all_none, all_more}
 use Rattle.groups.proofs.members.Group.all_want.Goals as goal
