@@ -1,11 +1,10 @@
 -- From starts that place a junction's greens to a plan that leaves so much to spare, and back.
-use Rattle.std.proofs.Common.{◌≡◌, ℕ, ◌+◌, ◌-◌, ◌*◌, ◌<◌, ◌≤◌, true, ltb, get_or, sym, refl, ap, ◌∙◌, ⊎_elim, arith}
+use Rattle.std.proofs.Common.{◌≡◌, ℕ, ◌+◌, ◌-◌, ◌*◌, ◌<◌, ◌≤◌, ltb, get_or, sym, ap, ◌∙◌, ⊎_elim, arith}
 use Rattle.std.proofs.lemmas.Bool.{cases_eq}
 use Rattle.greens.specs.declared.seconds.Cycle.{Cycle}
 use Rattle.crossing.specs.Site.{Site, Greens}
 use Rattle.crossing.specs.Good.{apart}
 use Rattle.crossing.proofs.Good.{GoodPlan, good_out}
-use Rattle.groups.specs.Groups.{asked}
 use Rattle.placing.specs.declared.settings.Setting.{Setting}
 use Rattle.placing.specs.Settings.{task_of, entry_of}
 use Rattle.placing.specs.Starts.{Task, Placed, green_at}

@@ -1,5 +1,5 @@
 -- A junction laid out for the search of starts. Assumes nothing: these are definitions.
-use Rattle.std.specs.Prelude.{◌≡◌, ℕ, ◌+◌, ◌<◌, ◌≤◌, List, length, ◌≢◌, slice_index}
+use Rattle.std.specs.Prelude.{◌≡◌, ℕ, ◌+◌, ◌<◌, ◌≤◌, List, ◌≢◌, slice_index}
 use Rattle.crossing.specs.Site.{Site}
 use Rattle.crossing.specs.Tables.{entry}
 use Rattle.groups.specs.Groups.{asked}

@@ -6,18 +6,18 @@ use Rattle.planning.proofs.Reach.{overlong_none, reached, unreached}
 use Rattle.planning.proofs.Same.{same_leaves}
 use Rattle.planning.proofs.finding.leaving.Goals as goal
 
-pub returns-in-err-setting : goal.returns-in-err-setting
-returns-in-err-setting c = rw c.from-residual.ensures (overlong_none (site_of c.args.junction.now) c.args.spare c.in-err-setting.ensures)
+pub returns-in_err-setting : goal.returns-in_err-setting
+returns-in_err-setting c = rw c.from_residual.ensures (overlong_none (site_of c.args.junction.now) c.args.spare c.in_err-setting.ensures)
 
-pub returns-in-err-starts : goal.returns-in-err-starts
-returns-in-err-starts c =
-    rw c.from-residual-in-err-starts.ensures
-    (unreached (site_of c.args.junction.now) c.args.spare c.args.anchor c.args.ground.now c.in-ok-setting.setting c.requires.1
-    c.in-ok-setting.ensures c.requires.0 c.in-err-starts.ensures)
+pub returns-in_err-starts : goal.returns-in_err-starts
+returns-in_err-starts c =
+    rw c.from_residual-in_err-starts.ensures
+    (unreached (site_of c.args.junction.now) c.args.spare c.args.anchor c.args.ground.now c.in_ok-setting.setting c.requires.1
+    c.in_ok-setting.ensures c.requires.0 c.in_err-starts.ensures)
 
 pub returns : goal.returns
 returns c =
-    same_leaves (site_of c.args.junction.now) c.args.spare (plan_for (site_of c.args.junction.now) c.args.spare (start_of c.in-ok-starts.starts))
-    (green_of c.plan-from.result.greens) c.plan-from.ensures
-    (reached (site_of c.args.junction.now) c.args.spare c.args.anchor c.args.ground.now c.in-ok-setting.setting c.requires.1
-    c.in-ok-setting.ensures (start_of c.in-ok-starts.starts) c.args.junction.now.few.0 c.in-ok-starts.ensures)
+    same_leaves (site_of c.args.junction.now) c.args.spare (plan_for (site_of c.args.junction.now) c.args.spare (start_of c.in_ok-starts.starts))
+    (green_of c.plan_from.result.greens) c.plan_from.ensures
+    (reached (site_of c.args.junction.now) c.args.spare c.args.anchor c.args.ground.now c.in_ok-setting.setting c.requires.1
+    c.in_ok-setting.ensures (start_of c.in_ok-starts.starts) c.args.junction.now.few.0 c.in_ok-starts.ensures)

@@ -1,4 +1,4 @@
-use Rattle.std.proofs.Common.{◌+◌, ◌-◌, ◌≤◌}
+use Rattle.std.proofs.Common.{◌+◌, ◌-◌}
 use Rattle.greens.specs.Plans.{green_of}
 use Rattle.crossing.specs.Taken.{site_of}
 use Rattle.planning.specs.Lengths.{Leaves, Beyond}

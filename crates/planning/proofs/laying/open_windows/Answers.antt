@@ -8,9 +8,9 @@ loop-green-preserved c =
     elim c.if-green-anchor.branch [
       | then-green-anchor w ↦
           rw w.setting-is
-          (opened_more c.args.setting.now c.loop-green.setting w.set-window.new.self c.args.anchor c.args.last c.loop-green.green (omega arith)
-          c.loop-green.invariant w.set-window.ensures.window.0 w.set-window.ensures.window.1 w.set-window.ensures.same.0 w.set-window.ensures.same.1
-          w.set-window.ensures.same.3)
+          (opened_more c.args.setting.now c.loop-green.setting w.set_window.new.self c.args.anchor c.args.last c.loop-green.green (omega arith)
+          c.loop-green.invariant w.set_window.ensures.window.0 w.set_window.ensures.window.1 w.set_window.ensures.same.0 w.set_window.ensures.same.1
+          w.set_window.ensures.same.3)
       | else-green-anchor w ↦
           rw w.setting-is
           (opened_past c.args.setting.now c.loop-green.setting c.args.anchor c.args.last c.loop-green.green w.if-green-anchor.false c.loop-green.invariant)

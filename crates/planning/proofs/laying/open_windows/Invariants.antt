@@ -1,4 +1,3 @@
-use Rattle.std.proofs.Common.{◌≡◌, length}
 use Rattle.planning.specs.Laying.{Opened}
 use Rattle.planning.proofs.laying.open_windows.Given as goal
 

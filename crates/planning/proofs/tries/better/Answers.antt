@@ -4,8 +4,8 @@ use Rattle.crossing.specs.Taken.{site_of}
 use Rattle.planning.proofs.Progress.{stays, stays_ahead, takes_first, takes_better}
 use Rattle.planning.proofs.tries.better.Goals as goal
 
-pub returns-in-default : goal.returns-in-default
-returns-in-default c = stays (site_of c.args.junction.now) c.args.best (green_of c.args.plan.greens) c.requires c.in-default.ensures
+pub returns-in_default : goal.returns-in_default
+returns-in_default c = stays (site_of c.args.junction.now) c.args.best (green_of c.args.plan.greens) c.requires c.in_default.ensures
 
 pub returns-in-None : goal.returns-in-None
 returns-in-None c =
