@@ -8,7 +8,6 @@ use Rattle.crossing.specs.Good.{worst, Best, NoPlan}
 use Rattle.crossing.specs.Taken.{site_of}
 use Rattle.texts.specs.Answers.{answer_line, none_line}
 use Rattle.texts.specs.Numbers.{Answered}
-use Rattle.texts.specs.Printed.{Adds}
 use Rattle.texts.specs.Refused.{Says}
 use Rattle.texts.specs.Rings.{rings}
 use Rattle.texts.specs.Sections.{Told}

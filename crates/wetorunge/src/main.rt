@@ -6,6 +6,7 @@ mod answering;
 use answering::answer_all;
 use anyhow::anyhow;
 use std::io::{Read, Write};
+use std::process::ExitCode;
 use std::{env, fs};
 
 const HELP: &str =
@@ -96,14 +97,15 @@ fn run(rt: &HostRuntime) -> anyhow::Result<bool> {
     Ok(!answer.refused)
 }
 
-// A status other than 0 comes from an error alone, so a refusal ends as one that nothing is said of.
-fn main(rt: HostRuntime) -> anyhow::Result<()> {
+// A refusal ends with its status alone: its line was printed with the answers.
+fn main(rt: HostRuntime) -> ExitCode {
     match run(&rt) {
-        Ok(true) => Ok(()),
-        Ok(false) => Err(anyhow!("refused")),
+        Ok(true) => ExitCode::SUCCESS,
+        Ok(false) => ExitCode::FAILURE,
         Err(error) => {
-            eprintln!(rt; "wetorunge: {error}")?;
-            Err(error)
+            // Where standard error fails too, the status has to do.
+            let _unsaid = eprintln!(rt; "wetorunge: {error}");
+            ExitCode::FAILURE
         }
     }
 }
