@@ -54,7 +54,7 @@ pub(crate) fn run(rt: &HostRuntime, name: &str, rounds: u32) -> anyhow::Result<(
         marks = marks.wrapping_add(timed.mark);
         times.push(timed.nanos)?;
     }
-    times.sort();
+    times.sort_unstable();
     let count = family.junctions.len();
     let Sums { right, none, spare } = sums;
     println!(rt;

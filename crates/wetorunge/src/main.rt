@@ -104,7 +104,7 @@ fn main(rt: HostRuntime) -> ExitCode {
         Ok(false) => ExitCode::FAILURE,
         Err(error) => {
             // Where standard error fails too, the status has to do.
-            let _unsaid = eprintln!(rt; "wetorunge: {error}");
+            let _ = eprintln!(rt; "wetorunge: {error}");
             ExitCode::FAILURE
         }
     }
