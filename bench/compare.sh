@@ -8,9 +8,9 @@ rounds=${1:-20}
 out=$(mktemp -d)
 trap 'rm -rf "$out"' EXIT
 
-[ -x target/bin/bench ] || rt check bench >"$out/check" 2>&1 || { cat "$out/check"; exit 1; }
+program=$PWD/crates/bench/out/bench
+[ -x "$program" ] || (cd crates/bench && rt run -- 0) >"$out/check" 2>&1 || [ -x "$program" ] || { cat "$out/check"; exit 1; }
 rustc -O bench/twin.rs -o "$out/twin"
-program=$PWD/target/bin/bench
 cd crates/bench/data
 for turn in 1 2 3 4 5; do
     "$program" "$rounds" >"$out/proved.answers" 2>>"$out/proved.times"
