@@ -9,7 +9,8 @@ out=$(mktemp -d)
 trap 'rm -rf "$out"' EXIT
 
 program=$PWD/crates/bench/out/bench
-[ -x "$program" ] || (cd crates/bench && rt run -- 0) >"$out/check" 2>&1 || [ -x "$program" ] || { cat "$out/check"; exit 1; }
+# Run in the crate's folder it finds no junctions and says so: here it is only to be built.
+[ -x "$program" ] || (cd crates/bench && rt run) >"$out/check" 2>&1 || [ -x "$program" ] || { cat "$out/check"; exit 1; }
 rustc -O bench/twin.rs -o "$out/twin"
 cd crates/bench/data
 for turn in 1 2 3 4 5; do

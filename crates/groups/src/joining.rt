@@ -1,5 +1,5 @@
 // Which streams are members of a set, and joining it.
-ghost use Rattle.std.specs.Prelude.{◌≡◌, ℕ, true, false, set, slice_set};
+ghost use Rattle.std.specs.Prelude.{◌≡◌, ℕ, true, false, slice_set};
 ghost use Rattle.groups.specs.Groups.{other};
 ghost use Rattle.groups.specs.Members.{member_of};
 

@@ -77,29 +77,29 @@ line_word (a ∷ b ∷ c ∷ d ∷ e ∷ []) is =
 line_word (a ∷ b ∷ c ∷ d ∷ e ∷ f ∷ rest) is = refl
 
 -- a line more keeps the names words
-abbrev kept : Option Sofar → Type 0
-kept None = Unit {0}
-kept (Some s) = are_words s.names ≡ true
+abbrev Kept : Option Sofar → Type 0
+Kept None = Unit {0}
+Kept (Some s) = are_words s.names ≡ true
 
 one_name : (name : List ℕ) → is_word name ≡ true → are_words (name ∷ []) ≡ true
 unfolding are_words
 one_name name is = and_from (is_word name) true is refl
 
-cycle_kept : (s : Sofar) (seconds : ℕ) (o : Option ℕ) → are_words s.names ≡ true → kept (with_cycle s seconds o)
+cycle_kept : (s : Sofar) (seconds : ℕ) (o : Option ℕ) → are_words s.names ≡ true → Kept (with_cycle s seconds o)
 cycle_kept s seconds None are = are
 cycle_kept s seconds (Some c) are = tt
 
-line_kept : (s : Sofar) (line : Said) → are_words s.names ≡ true → said_word line ≡ true → kept (with_line s line)
+line_kept : (s : Sofar) (line : Said) → are_words s.names ≡ true → said_word line ≡ true → Kept (with_line s line)
 line_kept s nothing are is = are
 line_kept s (begins name) are is = tt
 line_kept s (lasts seconds) are is = cycle_kept s seconds s.cycle are
 line_kept s (stream name least comes) are is =
-    cond_both (ltb (place name s.names) (length s.names)) None _ kept (λ _. tt) (λ _. are_append s.names (name ∷ []) are (one_name name is))
+    cond_both (ltb (place name s.names) (length s.names)) None _ Kept (λ _. tt) (λ _. are_append s.names (name ∷ []) are (one_name name is))
 line_kept s (clears first seconds next) are is =
     cond_both
     (ltb (place first s.names) (length s.names) && (ltb (place next s.names) (length s.names) && eqb (number_said s.clearings (place first s.names) (place next s.names)) 0))
     (Some (record { cycle = s.cycle; names = s.names; figures = s.figures; clearings = s.clearings ++ (record { first = place first s.names; next = place next s.names; number = capped 254 seconds + 1 } ∷ []) }))
-    None kept (λ _. are) (λ _. tt)
+    None Kept (λ _. are) (λ _. tt)
 line_kept s unread are is = tt
 
 -- a junction more, a line more, an end
@@ -108,7 +108,7 @@ module _ (n : ℕ) (t : Told) (good : told_words t ≡ true) where
   unless_good None next is = is
   unless_good (Some line) next is = good
 
-  said_good : (o : Option Sofar) → kept o → told_words (more_said n t o) ≡ true
+  said_good : (o : Option Sofar) → Kept o → told_words (more_said n t o) ≡ true
   said_good None is = good
   said_good (Some s) is = and_from (title_is_word t.name) (are_words s.names) (and_parts (title_is_word t.name) (are_words t.said.names) good).0 is
 
