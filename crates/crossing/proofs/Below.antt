@@ -93,3 +93,7 @@ unfolding first_to
 first_same zero test other agree = refl
 first_same (suc n) test other agree =
     let before = first_same n test other (λ k h. agree k (omega arith)) in let here = agree n (omega arith) in rw (before, here)
+
+pub least_none : (figure : ℕ → ℕ) (bound : ℕ) → least_to 0 figure bound ≡ bound
+unfolding least_to
+least_none figure bound = refl

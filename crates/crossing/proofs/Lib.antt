@@ -5,6 +5,7 @@ pub mod Faults
 pub mod Filled
 pub mod Good
 pub mod Queue
+pub mod Ranges
 pub mod Refused
 pub mod Rows
 pub mod Safe
