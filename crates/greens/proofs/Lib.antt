@@ -1,3 +1,4 @@
 pub mod Circle
 pub mod Counts
+pub mod Mapped
 pub mod Turns

@@ -5,7 +5,7 @@ ghost use Rattle.greens.specs.Rounds.{later};
 
 use crate::seconds::Cycle;
 
-#[derive(Clone, Copy)]
+#[derive(Clone, Copy, Debug, PartialEq, Eq)]
 pub struct Green {
     pub from: u8,
     pub long: u8,
@@ -34,12 +34,8 @@ impl Green {
         ensures counted { result ≡ count_to cycle.seconds (on cycle.seconds self) }
         ensures stated { self.from < cycle.seconds → self.long ≤ cycle.seconds → result ≡ self.long }
     {
-        let mut count = 0;
-        for second in 0..cycle.seconds() {
-            if self.on(cycle, second) {
-                count += 1;
-            }
-        }
-        count
+        (0..cycle.seconds())
+            .filter(|&second| self.on(cycle, second))
+            .count() as u8
     }
 }

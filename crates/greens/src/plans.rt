@@ -6,9 +6,12 @@ ghost use Rattle.greens.specs.Rounds.{later};
 use crate::lights::Green;
 use crate::seconds::Cycle;
 
-#[derive(Clone, Copy)]
+// How many streams a junction can have.
+pub const MOST_STREAMS: usize = 12;
+
+#[derive(Clone, Copy, Debug, PartialEq, Eq)]
 pub struct Plan {
-    greens: [Green; 12],
+    greens: [Green; MOST_STREAMS],
     ghost twelve: { length greens ≡ 12 },
 }
 
@@ -18,7 +21,7 @@ impl Plan {
         ensures { (k : ℕ) → green_of result.greens k ≡ no_green }
     {
         Plan {
-            greens: [Green { from: 0, long: 0 }; 12],
+            greens: [Green { from: 0, long: 0 }; MOST_STREAMS],
         }
     }
 
@@ -26,18 +29,18 @@ impl Plan {
     pub fn green(&self, stream: usize) -> Green
         ensures { result ≡ green_of self.now.greens stream }
     {
-        if stream < 12 {
-            self.greens[stream]
-        } else {
-            Green { from: 0, long: 0 }
-        }
+        self.greens
+            .get(stream)
+            .copied()
+            .unwrap_or(Green { from: 0, long: 0 })
     }
 
     // Gives a stream another green; past the twelfth there is none to give it to.
     pub fn set(&mut self, stream: usize, green: Green)
         ensures { self.new.greens ≡ slice_set self.old.greens stream green }
     {
-        if stream < 12 {
+        // By its place: of a write through `get_mut` nothing is known afterwards.
+        if stream < self.greens.len() {
             self.greens[stream] = green;
         }
     }
@@ -46,11 +49,8 @@ impl Plan {
     pub fn later(&self, cycle: Cycle, by: u8) -> Plan
         ensures { (k : ℕ) → k < 12 → green_of result.greens k ≡ later cycle.seconds by (green_of self.now.greens k) }
     {
-        let mut plan = Plan::new();
-        for stream in 0..12 {
-            let green = self.green(stream);
-            plan.set(stream, green.later(cycle, by));
+        Plan {
+            greens: self.greens.map(|green| green.later(cycle, by)),
         }
-        plan
     }
 }

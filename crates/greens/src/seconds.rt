@@ -2,7 +2,10 @@
 ghost use Rattle.std.specs.Prelude.{◌≡◌, ◌+◌, ◌%◌, ◌≤◌, MatchOption};
 ghost use Rattle.greens.specs.Circle.{after};
 
-#[derive(Clone, Copy)]
+// How many seconds a cycle can have.
+pub const MOST_SECONDS: u8 = 120;
+
+#[derive(Clone, Copy, Debug, PartialEq, Eq)]
 pub struct Cycle {
     seconds: u8,
     ghost fits: { (1 ≤ seconds) × (seconds ≤ 120) },
@@ -13,7 +16,7 @@ impl Cycle {
     pub fn new(seconds: u64) -> Option<Cycle>
         ensures { MatchOption result ((1 ≤ seconds) × (seconds ≤ 120) → ⊥) (λ c. c.seconds ≡ seconds) }
     {
-        if seconds >= 1 && seconds <= 120 {
+        if seconds >= 1 && seconds <= MOST_SECONDS as u64 {
             Some(Cycle {
                 seconds: seconds as u8,
             })
