@@ -1,8 +1,9 @@
 -- Taking tests over the numbers below a number apart, and putting them together.
-use Rattle.std.proofs.Common.{◌≡◌, ℕ, zero, suc, ◌+◌, ◌<◌, ◌≤◌, min, Bool, true, false, Decides, refl, ⊎_elim, add-one, arith}
-use Rattle.std.proofs.lemmas.Bool.{both_ways, cases_Bool, cases_eq, cases_order}
+use Rattle.std.proofs.Common.{◌≡◌, ℕ, zero, suc, ◌+◌, ◌<◌, ◌≤◌, min, Option, Some, None, cond, ltb, sym, subst, ap, Bool, true, false, Decides, refl, ⊎_elim, add-one, arith}
+use Rattle.std.proofs.lemmas.Bool.{both_ways, cases_Bool, cases_eq, cases_lt, cases_order, lt-ltb, le-ltb}
 use Rattle.std.proofs.lemmas.Bool.Decides.{Decides-below_and, nat_tests}
-use Rattle.crossing.specs.Below.{all_to, first_to, least_to}
+use Rattle.std.specs.Prelude.{MatchOption}
+use Rattle.crossing.specs.Below.{all_to, first_to, found_to, least_to}
 
 all_decides : (n : ℕ) (test : ℕ → Bool) → Decides (all_to n test) ((k : ℕ) → k < n → test k ≡ true)
 unfolding all_to
@@ -83,6 +84,16 @@ first_is n test i within none here =
     absurd (both_ways (test (first_to n test)) (none (first_to n test) late) (first_here n test (omega arith)))))
     (cases_order i (first_to n test))
 
+-- so `found_to` says: none passes, or the one that it answers and none before it
+pub found_says : (n : ℕ) (test : ℕ → Bool) (r : Option ℕ) → r ≡ found_to n test →
+    MatchOption r ((k : ℕ) → k < n → test k ≡ false) (λ i. (i < n) × (test i ≡ true) × ((k : ℕ) → k < i → test k ≡ false))
+found_says n test r is =
+    subst (λ o. MatchOption o ((k : ℕ) → k < n → test k ≡ false) (λ i. (i < n) × (test i ≡ true) × ((k : ℕ) → k < i → test k ≡ false))) (sym is)
+    (⊎_elim
+    (λ (some : first_to n test < n). let e = lt-ltb (first_to n test) n some in rw e (some, first_here n test some, first_below n test))
+    (λ (none : n ≤ first_to n test). let e = le-ltb (first_to n test) n none in rw e (λ k h. first_below n test k (omega arith)))
+    (cases_lt (first_to n test) n))
+
 pub all_fails : (n : ℕ) (test : ℕ → Bool) (k : ℕ) → k < n → test k ≡ false → all_to n test ≡ false
 all_fails n test k within fails =
     ⊎_elim (λ (all : all_to n test ≡ true). absurd (both_ways (test k) fails (all_out n test all k within))) (λ (e : all_to n test ≡ false). e) (cases_Bool (all_to n test))
@@ -93,6 +104,9 @@ unfolding first_to
 first_same zero test other agree = refl
 first_same (suc n) test other agree =
     let before = first_same n test other (λ k h. agree k (omega arith)) in let here = agree n (omega arith) in rw (before, here)
+
+pub found_same : (n : ℕ) (test other : ℕ → Bool) → ((k : ℕ) → k < n → test k ≡ other k) → found_to n test ≡ found_to n other
+found_same n test other agree = ap (λ i. cond (ltb i n) (Some i) None) (first_same n test other agree)
 
 pub least_none : (figure : ℕ → ℕ) (bound : ℕ) → least_to 0 figure bound ≡ bound
 unfolding least_to

@@ -1,21 +1,26 @@
 // A plan judged: good, or the first thing that is wrong with it.
-ghost use Rattle.std.specs.Prelude.{◌≡◌, length};
+ghost use Rattle.std.specs.Prelude.{◌≡◌, ℕ, ◌<◌, length, Err, MatchOption, MatchResult};
 ghost use Rattle.greens.specs.Plans.{green_of};
 ghost use Rattle.crossing.specs.Good.{fits, worst, enough};
 ghost use Rattle.crossing.specs.Taken.{site_of};
-ghost use Rattle.crossing.specs.Verdicts.{Judged, unfit, close_in_row, close_next, close_first, close_second};
+ghost use Rattle.crossing.specs.Verdicts.{Judged, AllFit, AllApart, Calm, FirstClose, close_to};
 
 use crate::junctions::Junction;
 use crate::keeping::too_close;
 use greens::{Cycle, Green, Plan};
 
-#[derive(Clone, Copy)]
-pub enum Verdict {
-    // The plan is good: what the stream that is worst off has to spare, and whether all can go.
-    Good {
-        spare: u8,
-        all_go: bool,
-    },
+// What a good plan is worth.
+#[derive(Clone, Copy, Debug, PartialEq, Eq)]
+pub struct Worth {
+    // What the stream that is worst off has to spare.
+    pub spare: u8,
+    // Whether all can go.
+    pub all_go: bool,
+}
+
+// What is wrong with a plan that isn't good.
+#[derive(Clone, Copy, Debug, PartialEq, Eq)]
+pub enum Fault {
     // The first stream whose green doesn't fit: it begins past the cycle, is too short, or longer than the cycle.
     Unfit {
         stream: usize,
@@ -34,107 +39,82 @@ impl Junction {
         ensures { result ≡ fits (site_of self.now) stream green }
     {
         let cycle = self.cycle().seconds();
-        (green.from < cycle) & ((self.stream(stream).least <= green.long) & (green.long <= cycle))
+        green.from < cycle && self.stream(stream).least <= green.long && green.long <= cycle
     }
 
     // What the stream that is worst off has to spare in a plan.
     pub fn worst_spare(&self, plan: &Plan) -> u8
         ensures { result ≡ worst (site_of self.now) (green_of plan.now.greens) }
     {
-        let mut least = self.cycle().seconds();
-        for k in 0..self.streams() {
-            let spare = plan.green(k).long.saturating_sub(self.stream(k).comes);
-            least = least.min(spare);
-        }
-        least
+        (0..self.streams()).fold(self.cycle().seconds(), |least, k| {
+            least.min(plan.green(k).long.saturating_sub(self.stream(k).comes))
+        })
     }
 
     // Whether all can go: every green is at least as long as how many come.
     pub fn all_go(&self, plan: &Plan) -> bool
         ensures { result ≡ enough (site_of self.now) (green_of plan.now.greens) }
     {
-        for k in 0..self.streams() {
-            if plan.green(k).long < self.stream(k).comes {
-                return false;
-            }
-        }
-        true
+        (0..self.streams()).all(|k| plan.green(k).long >= self.stream(k).comes)
     }
 
-    // A plan judged: good, or the first thing that is wrong with it.
-    pub fn judge(&self, plan: &Plan) -> Verdict
+    // A plan judged: what it is worth if it is good, or the first thing that is wrong with it.
+    pub fn judge(&self, plan: &Plan) -> Result<Worth, Fault>
         ensures { Judged (site_of self.now) (green_of plan.now.greens) result }
     {
-        let stream = first_unfit(self, plan);
-        if stream < self.streams() {
-            return Verdict::Unfit { stream };
-        }
-        let second = close_second(self, plan);
-        if second < self.cycle().seconds() {
-            let first = close_first(self, plan, second);
-            let next = close_in_row(self.cycle(), self.row(first), plan, first, second);
-            return Verdict::TooClose {
-                second,
-                first,
-                next,
-            };
-        }
-        Verdict::Good {
+        all_fit(self, plan)?;
+        all_apart(self, plan)?;
+        Ok(Worth {
             spare: self.worst_spare(plan),
             all_go: self.all_go(plan),
-        }
+        })
     }
 }
 
-// The first stream whose green doesn't fit, or how many streams there are.
-fn first_unfit(junction: &Junction, plan: &Plan) -> usize
-    ensures { result ≡ unfit (site_of junction.now) (green_of plan.now.greens) }
+// Whether every green fits, or the first stream whose green doesn't.
+fn all_fit(junction: &Junction, plan: &Plan) -> Result<(), Fault>
+    ensures { MatchResult result (λ _. AllFit (site_of junction.now) (green_of plan.now.greens)) (λ fault. Judged (site_of junction.now) (green_of plan.now.greens) (Err fault)) }
 {
-    for k in 0..junction.streams() {
-        if !junction.fits(k, plan.green(k)) {
-            return k;
-        }
+    let unfit = (0..junction.streams()).find(|&k| !junction.fits(k, plan.green(k)));
+    match unfit {
+        Some(stream) => Err(Fault::Unfit { stream }),
+        None => Ok(()),
     }
-    junction.streams()
 }
 
-// In a second, by stream `a`'s row of the table: the first stream that is too close to `a`, or how many there are.
-fn close_in_row(cycle: Cycle, row: &[u8], plan: &Plan, a: usize, second: u8) -> usize
-    ensures { result ≡ close_in_row cycle.seconds row.now (green_of plan.now.greens) a second }
+// Whether no two are too close in any second, or the first second in which two are, and the first such two.
+fn all_apart(junction: &Junction, plan: &Plan) -> Result<(), Fault>
+    ensures { MatchResult result (λ _. AllApart (site_of junction.now) (green_of plan.now.greens)) (λ fault. AllFit (site_of junction.now) (green_of plan.now.greens) → Judged (site_of junction.now) (green_of plan.now.greens) (Err fault)) }
 {
-    for b in 0..row.len() {
-        if row[b] > 0
-            && a != b
-            && too_close(cycle, row[b] - 1, plan.green(a), plan.green(b), second)
-        {
-            return b;
-        }
+    let close = (0..junction.cycle().seconds()).find_map(|second| {
+        let (first, next) = first_close(junction, plan, second)?;
+        Some((second, first, next))
+    });
+    match close {
+        Some((second, first, next)) => Err(Fault::TooClose {
+            second,
+            first,
+            next,
+        }),
+        None => Ok(()),
     }
-    row.len()
 }
 
-// In a second: the first stream to which another is too close, or how many there are.
-fn close_first(junction: &Junction, plan: &Plan, second: u8) -> usize
-    ensures { result ≡ close_first (site_of junction.now) (green_of plan.now.greens) second }
+// In a second: the first two streams that are too close, if any are.
+fn first_close(junction: &Junction, plan: &Plan, second: u8) -> Option<(usize, usize)>
+    ensures { MatchOption result (Calm (site_of junction.now) (green_of plan.now.greens) second) (λ two. FirstClose (site_of junction.now) (green_of plan.now.greens) second two.0 two.1) }
 {
-    let count = junction.streams();
-    for a in 0..count {
-        if close_in_row(junction.cycle(), junction.row(a), plan, a, second) < count {
-            return a;
-        }
-    }
-    count
+    (0..junction.streams()).find_map(|first| {
+        let next = close_to(junction.cycle(), junction.row(first), plan, first, second)?;
+        Some((first, next))
+    })
 }
 
-// The first second in which two are too close, or how many seconds there are.
-fn close_second(junction: &Junction, plan: &Plan) -> u8
-    ensures { result ≡ close_second (site_of junction.now) (green_of plan.now.greens) }
+// In a second, by stream `a`'s row of the table: the first stream that is too close to `a`, if one is.
+fn close_to(cycle: Cycle, row: &[u8], plan: &Plan, a: usize, second: u8) -> Option<usize>
+    ensures { result ≡ close_to cycle.seconds row.now (green_of plan.now.greens) a second }
 {
-    let seconds = junction.cycle().seconds();
-    for second in 0..seconds {
-        if close_first(junction, plan, second) < junction.streams() {
-            return second;
-        }
-    }
-    seconds
+    row.iter().enumerate().position(|(b, &number)| {
+        number > 0 && a != b && too_close(cycle, number - 1, plan.green(a), plan.green(b), second)
+    })
 }

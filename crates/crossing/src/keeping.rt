@@ -17,10 +17,5 @@ pub fn too_close(cycle: Cycle, clear: u8, first: Green, next: Green, second: u8)
 pub fn apart(cycle: Cycle, clear: u8, first: Green, next: Green) -> bool
     ensures { result ≡ apart cycle.seconds clear first next }
 {
-    for second in 0..cycle.seconds() {
-        if too_close(cycle, clear, first, next, second) {
-            return false;
-        }
-    }
-    true
+    !(0..cycle.seconds()).any(|second| too_close(cycle, clear, first, next, second))
 }

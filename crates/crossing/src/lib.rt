@@ -9,7 +9,7 @@ mod laws;
 mod reading;
 mod refusals;
 
-pub use judging::Verdict;
+pub use judging::{Fault, Worth};
 pub use junctions::{Junction, Stream};
 pub use keeping::{apart, too_close};
 pub use laws::{cleared, never_together, no_growing, turned};

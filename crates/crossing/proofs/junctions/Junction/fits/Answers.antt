@@ -1,6 +1,12 @@
+use Rattle.std.proofs.Common.{rules, tests}
 use Rattle.crossing.specs.Good.{fits}
 use Rattle.crossing.proofs.junctions.Junction.fits.Goals as goal
 
-pub returns : goal.returns
+pub returns-then-stream-green : goal.returns-then-stream-green
 unfolding fits
-returns c = rw (c.seconds-cycle.ensures, c.cycle.ensures, c.stream.ensures)
+returns-then-stream-green c = search (rules, tests)
+
+pub returns-else-stream-green : goal.returns-else-stream-green
+unfolding fits
+returns-else-stream-green c = search (rules, tests)
+

@@ -1,33 +1,19 @@
-use Rattle.std.proofs.Common.{◌≡◌, ap, ◌∙◌, arith}
-use Rattle.greens.specs.declared.lights.Green.{Green}
-use Rattle.greens.specs.declared.seconds.Cycle.{Cycle}
+use Rattle.std.proofs.Common.{rules, tests, arith, ◌≡◌, ◌∙◌, min, sym, ap, refl}
 use Rattle.greens.specs.Plans.{green_of}
-use Rattle.crossing.specs.declared.junctions.Stream.{Stream}
 use Rattle.crossing.specs.Below.{least_to}
-use Rattle.crossing.specs.Good.{spare, worst}
+use Rattle.crossing.specs.Good.{worst, spare}
 use Rattle.crossing.specs.Taken.{site_of}
-use Rattle.crossing.proofs.Below.{least_more}
+use Rattle.crossing.proofs.Below.{least_none, least_more}
+use Rattle.crossing.proofs.Ranges.{fold_of}
 use Rattle.crossing.proofs.junctions.Junction.worst_spare.Goals as goal
 
-pub loop-k-init : goal.loop-k-init
-unfolding least_to
-loop-k-init c = c.seconds-least.ensures ∙ ap (λ (x : Cycle). x.seconds) c.cycle.ensures
-
-pub loop-k-preserved : goal.loop-k-preserved
-unfolding spare
-loop-k-preserved c =
-    let long = ap (λ (g : Green). g.long) c.green.ensures in
-    let comes = ap (λ (s : Stream). s.comes) c.stream.ensures in
-    omega (
-      arith,
-      long,
-      comes,
-      c.saturating_sub-spare.ensures,
-      least_more c.loop-k.k (spare (site_of c.args.self.now) (green_of c.args.plan.now.greens)) c.args.self.now.cycle.seconds,
-    )
-
 pub returns : goal.returns
-unfolding worst
+unfolding worst spare
 returns c =
-    let all : c.loop-k.k ≡ c.args.self.now.count = omega arith in
-    c.loop-k.invariant ∙ rw all
+    let site = site_of c.args.self.now in
+    let greens = green_of c.args.plan.now.greens in
+    fold_of c.args.self.now.count (λ k a. a ≡ least_to k (spare site greens) site.cycle) c.fold.ensures.ran (search rules)
+    (search (rules, least_none))
+    (λ k a b q within so_far called.
+    let turned : (q ≡ (c.args.plan, c.args.self)) × (b ≡ min (spare site greens k) a) = search (rules, tests) in
+    (turned.0, turned.1 ∙ (rw so_far (sym (least_more k (spare site greens) site.cycle)))))
