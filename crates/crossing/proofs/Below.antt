@@ -94,6 +94,15 @@ found_says n test r is =
     (λ (none : n ≤ first_to n test). let e = le-ltb (first_to n test) n none in rw e (λ k h. first_below n test k (omega arith)))
     (cases_lt (first_to n test) n))
 
+pub found_in : (n : ℕ) (test : ℕ → Bool) (r : Option ℕ) →
+    MatchOption r ((k : ℕ) → k < n → test k ≡ false) (λ i. (i < n) × (test i ≡ true) × ((k : ℕ) → k < i → test k ≡ false)) → r ≡ found_to n test
+found_in n test None none =
+    let is : first_to n test ≡ n = first_none n test none in
+    rw is (let past = le-ltb n n (omega arith) in rw past refl)
+found_in n test (Some i) told =
+    let is : i ≡ first_to n test = first_is n test i told.0 told.2 told.1 in
+    rw (sym is) (let within = lt-ltb i n told.0 in rw within refl)
+
 pub all_fails : (n : ℕ) (test : ℕ → Bool) (k : ℕ) → k < n → test k ≡ false → all_to n test ≡ false
 all_fails n test k within fails =
     ⊎_elim (λ (all : all_to n test ≡ true). absurd (both_ways (test k) fails (all_out n test all k within))) (λ (e : all_to n test ≡ false). e) (cases_Bool (all_to n test))

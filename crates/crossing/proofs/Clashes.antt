@@ -1,5 +1,5 @@
 -- Streams that are too close, looked for second by second and row by row.
-use Rattle.std.proofs.Common.{◌≡◌, ℕ, ◌-◌, ◌<◌, true, false, not, ◌&&◌, eqb, ltb, List, Option, Some, None, get_or, refl, sym, ap, subst, ◌∙◌}
+use Rattle.std.proofs.Common.{◌≡◌, ℕ, ◌-◌, ◌<◌, true, false, not, ◌&&◌, eqb, ltb, List, Option, Some, None, refl, sym, ap, subst, ◌∙◌}
 use Rattle.std.specs.Prelude.{MatchOption}
 use Rattle.crossing.specs.declared.junctions.Junction.{Junction}
 use Rattle.crossing.specs.Below.{found_to}

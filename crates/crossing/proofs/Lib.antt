@@ -2,8 +2,8 @@ pub mod Below
 pub mod Calm
 pub mod Clashes
 pub mod Faults
-pub mod Filled
 pub mod Good
+pub mod Made
 pub mod Queue
 pub mod Ranges
 pub mod Refused

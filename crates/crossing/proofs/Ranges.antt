@@ -1,5 +1,5 @@
 -- What the methods of a range answer, in the words of `Below`: each takes the clause `ran` of the call, and what a call of the closure answers.
-use Rattle.std.proofs.Common.{rules, ltb, ◌≡◌, ℕ, zero, suc, ◌+◌, ◌-◌, ◌<◌, ◌≤◌, Bool, true, false, not, List, [], ◌∷◌, Option, Some, None, length, get_or, refl, sym, ◌∙◌, ap, subst, arith}
+use Rattle.std.proofs.Common.{◌≡◌, ℕ, ◌+◌, ◌<◌, ◌≤◌, Bool, true, false, not, List, [], ◌∷◌, Option, Some, None, length, get_or, refl, sym, ◌∙◌, ap, subst, arith}
 use Rattle.std.specs.Prelude.{MatchBool, MatchOption, IfSome, IsSomeAnd, IsTrue}
 use Rattle.std.specs.Fn.{Called, CalledAt}
 use Rattle.std.specs.Option.{option_map}

@@ -1,13 +1,17 @@
 -- What is known of numbers by the refusals that apply to them, and by those that don't.
-use Rattle.std.proofs.Common.{◌≡◌, ℕ, ◌+◌, ◌*◌, ◌<◌, ◌≤◌, Bool, true, false, cond, not, ◌||◌, eqb, ltb, List, length, get_or, Some, None, Option, refl, ⊎_elim, arith}
+use Rattle.std.proofs.Common.{◌≡◌, ℕ, ◌+◌, ◌*◌, ◌<◌, ◌≤◌, Bool, true, false, cond, not, ◌||◌, eqb, ltb, List, length, get_or, Some, None, Option, refl, sym, ap, ◌∙◌, ⊎_elim, arith}
+use Rattle.std.specs.Prelude.{MatchOption, Result, Ok, Err, ok_or}
+use Rattle.std.specs.Result.{result_err}
+use Rattle.std.specs.Option.{option_map}
 use Rattle.std.proofs.lemmas.Bool.{or_parts, or_from, ltb-false, eqb-true, not-false, le-ltb, lt-ltb, or_left, or_right, cases_Bool, cases_lt}
 use Rattle.std.proofs.lemmas.Bool.Decides.{nat_tests}
 use Rattle.crossing.specs.declared.refusals.Refusal.{Refusal}
-use Rattle.crossing.specs.declared.refusals.Refusal.TheVariants.{Cycle, Room}
+use Rattle.crossing.specs.declared.refusals.Refusal.TheVariants.{Cycle, Table, Room}
 use Rattle.crossing.specs.Below.{all_to}
 use Rattle.crossing.specs.Tables.{crossing, both_ways}
-use Rattle.crossing.specs.Numbers.{refusal, streams_refusal, table_refusal, room_refusal, or_else, faulty_row, faulty_column, fault}
-use Rattle.crossing.proofs.Below.{all_in, first_below}
+use Rattle.crossing.specs.Numbers.{refusal, streams_refusal, table_refusal, room_refusal, or_else, faulty_place, fault}
+use Rattle.crossing.proofs.Below.{all_in}
+use Rattle.crossing.proofs.Faults.{no_fault}
 
 pub cycle_refused : (c n : ℕ) (pairs table : List ℕ) → ((1 ≤ c) × (c ≤ 120) → ⊥) → refusal c n pairs table ≡ Some (Cycle c)
 unfolding refusal
@@ -26,6 +30,23 @@ cycle_taken c n pairs table some under = let test : (ltb c 1 || ltb 120 c) ≡ f
 
 some_none : (e : Refusal) → Some e ≡ None → ⊥
 some_none e is = let z : ◌≡◌ {A = ℕ} 0 1 = cc in omega arith
+
+seconds_of : {X : Type 0} (seconds : X → ℕ) → Result X Refusal → ℕ
+seconds_of seconds (Ok cycle) = seconds cycle
+seconds_of seconds (Err e) = 0
+
+-- a cycle that can't be is refused, and else it is as long as it says
+pub cycle_err : {X : Type 0} (seconds : X → ℕ) (c n : ℕ) (pairs table : List ℕ) (o : Option X) (e : Refusal) → MatchOption o ((1 ≤ c) × (c ≤ 120) → ⊥) (λ cycle. seconds cycle ≡ c) →
+    ok_or o (Cycle c) ≡ Err e → refusal c n pairs table ≡ Some e
+cycle_err seconds c n pairs table None e out is = cycle_refused c n pairs table out ∙ ap result_err is
+cycle_err seconds c n pairs table (Some cycle) e told is = absurd (some_none e (ap result_err (sym is)))
+
+pub cycle_ok : {X : Type 0} (seconds : X → ℕ) (c : ℕ) (o : Option X) (cycle : X) → MatchOption o ((1 ≤ c) × (c ≤ 120) → ⊥) (λ cycle. seconds cycle ≡ c) →
+    ok_or o (Cycle c) ≡ Ok cycle → ((1 ≤ seconds cycle) × (seconds cycle ≤ 120)) → (seconds cycle ≡ c) × (1 ≤ c) × (c ≤ 120)
+unfolding seconds_of
+cycle_ok seconds c None cycle out is fits = absurd (some_none (Cycle c) (ap result_err is))
+cycle_ok seconds c (Some taken) cycle told is fits =
+    let same : seconds cycle ≡ c = sym (ap (seconds_of seconds) is) ∙ told in (same, omega (arith, fits.0), omega (arith, fits.1))
 
 cond_none : (b : Bool) (e : Refusal) (rest : Option Refusal) → cond b (Some e) rest ≡ None → (b ≡ false) × (rest ≡ None)
 cond_none true e rest is = absurd (some_none e is)
@@ -48,26 +69,28 @@ streams_taken n pairs is =
       paired = eqb-true _ _ (not-false _ numbered.0);
     }
 
--- a table that is taken has a number for each two streams, and no row at fault
+mapped_none : (f : ℕ → Refusal) (o : Option ℕ) → option_map f o ≡ None → o ≡ None
+mapped_none f None is = refl
+mapped_none f (Some x) is = absurd (some_none (f x) is)
+
+-- a table that is taken has a number for each two streams, and none at fault
 pub record TakenTable (n : ℕ) (table : List ℕ) : Type 0 where
   pub whole : length table ≡ n * n
-  pub faultless : n ≤ faulty_row n table
+  pub faultless : (a : ℕ) → a < n → (b : ℕ) → b < n → fault n table a b ≡ false
 
 pub table_taken : (n : ℕ) (table : List ℕ) → table_refusal n table ≡ None → TakenTable n table
 table_taken n table is =
     let counted = cond_none (not (eqb (length table) (n * n))) _ _ is in
-    let looked = cond_none (ltb (faulty_row n table) n) _ _ counted.1 in
-    record { whole = eqb-true _ _ (not-false _ counted.0); faultless = ltb-false _ _ looked.0 }
+    record { whole = eqb-true _ _ (not-false _ counted.0); faultless = no_fault n table (mapped_none Table (faulty_place n table) counted.1) }
 
 -- what crosses in a table without fault crosses both ways, also where the table is copied
-pub faultless_both : (n : ℕ) (table copy : List ℕ) → n ≤ faulty_row n table → ((i : ℕ) → get_or copy i 0 ≡ get_or table i 0) → both_ways n copy ≡ true
+pub faultless_both : (n : ℕ) (table copy : List ℕ) → TakenTable n table → ((i : ℕ) → get_or copy i 0 ≡ get_or table i 0) → both_ways n copy ≡ true
 unfolding both_ways
-faultless_both n table copy faultless same =
+faultless_both n table copy taken same =
     all_in n (λ a. all_to n (λ b. not (crossing n copy a b) || crossing n copy b a))
     (λ a ha. all_in n (λ b. not (crossing n copy a b) || crossing n copy b a)
     (λ b hb.
-    let row : ltb (faulty_column n table a) n ≡ false = first_below n (λ i. ltb (faulty_column n table i) n) a (omega arith) in
-    let sound : fault n table a b ≡ false = first_below n (fault n table a) b (omega (arith, ltb-false _ _ row)) in
+    let sound : fault n table a b ≡ false = taken.faultless a ha b hb in
     rw (same (a * n + b), same (b * n + a)) (grind (arith, nat_tests))))
 
 -- a room that is taken has two numbers for each stream

@@ -19,16 +19,17 @@ made n c streams table = record {
   clear = λ a b. entry n table a b - 1;
 }
 
-module _ (n : ℕ) (pairs : List ℕ) (streams : List Stream) (paired : length pairs ≡ 2 * n)
-    (each : (k : ℕ) → 2 * k + 1 < length pairs → get_or streams k no_stream ≡ stream_in pairs k)
-    (rest : (k : ℕ) → length pairs ≤ 2 * k + 1 → get_or streams k no_stream ≡ no_stream) where
+module _ (n : ℕ) (pairs : List ℕ) (streams : List Stream) (paired : length pairs ≡ 2 * n) (few : n ≤ 12) (twelve : length streams ≡ 12)
+    (each : (k : ℕ) → k < 12 → get_or streams k no_stream ≡ stream_in pairs k) where
   -- a stream is what its two numbers say, also past the last, where both are nothing
   stream_same : (k : ℕ) → get_or streams k no_stream ≡ stream_in pairs k
   stream_same k =
-      ⊎_elim (λ (within : 2 * k + 1 < length pairs). each k within)
-      (λ (past : length pairs ≤ 2 * k + 1).
-      let first = get_or_past pairs (2 * k) 0 (omega arith) in let second = get_or_past pairs (2 * k + 1) 0 (omega arith) in rest k past ∙ rw (first, second))
-      (cases_lt (2 * k + 1) (length pairs))
+      ⊎_elim (λ (within : k < 12). each k within)
+      (λ (past : 12 ≤ k).
+      let first = get_or_past pairs (2 * k) 0 (omega arith) in
+      let second = get_or_past pairs (2 * k + 1) 0 (omega arith) in
+      get_or_past streams k no_stream (omega arith) ∙ rw (first, second))
+      (cases_lt k 12)
 
   pub site_same : (seconds c : ℕ) (copy table : List ℕ) → seconds ≡ c → ((i : ℕ) → get_or copy i 0 ≡ get_or table i 0) → made n seconds streams copy ≡ site_in c n pairs table
   site_same seconds c copy table cycles entries = λ i. record {

@@ -1,8 +1,8 @@
 -- A junction given by numbers: what it asks for, and why numbers are not taken. Assumes nothing: these are definitions.
-use Rattle.std.specs.Prelude.{ℕ, ◌+◌, ◌-◌, ◌*◌, Bool, cond, not, ◌&&◌, ◌||◌, nat_lt, List, length, Some, None, Option, ◌==◌, slice_index}
+use Rattle.std.specs.Prelude.{ℕ, ◌+◌, ◌-◌, ◌*◌, Bool, cond, not, ◌&&◌, ◌||◌, nat_lt, List, length, Some, None, Option, is_some, option_map, option_and_then, position, ◌==◌, slice_index}
 use Rattle.crossing.specs.declared.refusals.Refusal.{Refusal}
 use Rattle.crossing.specs.declared.refusals.Refusal.TheVariants.{Cycle, Streams, Table, Room}
-use Rattle.crossing.specs.Below.{first_to}
+use Rattle.crossing.specs.Below.{found_to}
 use Rattle.crossing.specs.Site.{Site}
 use Rattle.crossing.specs.Tables.{entry, crossing}
 
@@ -17,9 +17,9 @@ site_in c n pairs table = record {
   clear = λ a b. entry n table a b - 1;
 }
 
--- the place of the first number above a bound, or their count
-abbrev pub first_above : (most : ℕ) → List ℕ → ℕ
-first_above most numbers = first_to (length numbers) (λ i. nat_lt most (slice_index numbers i))
+-- the place of the first number above a bound, if there is one
+abbrev pub first_above : (most : ℕ) → List ℕ → Option ℕ
+first_above most numbers = position (λ number. nat_lt most number) numbers
 
 -- a number of the table is at fault, beside the one for the same two the other way: it is above 121, not 0 for a stream and itself, or they cross one way only
 abbrev pub at_fault : (itself : Bool) (number back : ℕ) → Bool
@@ -29,25 +29,28 @@ at_fault itself number back =
 abbrev pub fault : (n : ℕ) (table : List ℕ) (a b : ℕ) → Bool
 fault n table a b = at_fault (a == b) (entry n table a b) (entry n table b a)
 
--- the first column of row a that is at fault, and the first row that has such a column; n where there is none
-abbrev pub faulty_column : (n : ℕ) (table : List ℕ) (a : ℕ) → ℕ
-faulty_column n table a = first_to n (fault n table a)
+-- the first column of row a that is at fault, if there is one, and the first row that has such a column
+abbrev pub faulty_column : (n : ℕ) (table : List ℕ) (a : ℕ) → Option ℕ
+faulty_column n table a = found_to n (fault n table a)
 
-abbrev pub faulty_row : (n : ℕ) (table : List ℕ) → ℕ
-faulty_row n table = first_to n (λ a. nat_lt (faulty_column n table a) n)
+abbrev pub faulty_row : (n : ℕ) (table : List ℕ) → Option ℕ
+faulty_row n table = found_to n (λ a. is_some (faulty_column n table a))
+
+-- the place of the first number that is at fault, row by row
+abbrev pub faulty_place : (n : ℕ) (table : List ℕ) → Option ℕ
+faulty_place n table = option_and_then (λ a. option_map (λ b. a * n + b) (faulty_column n table a)) (faulty_row n table)
 
 -- why the streams are not taken: their count, the count of their numbers, or the first number above 120
 abbrev pub streams_refusal : (n : ℕ) (pairs : List ℕ) → Option Refusal
 streams_refusal n pairs =
     cond (nat_lt n 1 || nat_lt 12 n) (Some (Streams n))
     (cond (not (length pairs == 2 * n)) (Some (Streams (length pairs)))
-    (cond (nat_lt (first_above 120 pairs) (length pairs)) (Some (Streams (first_above 120 pairs))) None))
+    (option_map (λ place. Streams place) (first_above 120 pairs)))
 
--- why the table is not taken: its length, or its first number that is at fault, row by row
+-- why the table is not taken: its length, or its first number that is at fault
 abbrev pub table_refusal : (n : ℕ) (table : List ℕ) → Option Refusal
 table_refusal n table =
-    cond (not (length table == n * n)) (Some (Table (length table)))
-    (cond (nat_lt (faulty_row n table) n) (Some (Table (faulty_row n table * n + faulty_column n table (faulty_row n table)))) None)
+    cond (not (length table == n * n)) (Some (Table (length table))) (option_map (λ place. Table place) (faulty_place n table))
 
 -- the first of two refusals, if there is any
 abbrev pub or_else : Option Refusal → Option Refusal → Option Refusal

@@ -1,9 +1,10 @@
 // What a junction asks for: its cycle, its streams, and what has to be clear between two of them.
 ghost use Rattle.std.specs.Prelude.{◌≡◌, ◌<◌, length, Some, None};
+ghost use Rattle.std.specs.Result.{result_err};
 ghost use Rattle.crossing.specs.Numbers.{room_refusal};
 ghost use Rattle.crossing.specs.Taken.{stream_of, clearing_of, row_in, seconds_in};
 
-use crate::junctions::{Junction, Stream};
+use crate::junctions::{Junction, Stream, row_at};
 use crate::refusals::Refusal;
 use greens::Cycle;
 
@@ -25,11 +26,10 @@ impl Junction {
     pub fn stream(&self, stream: usize) -> Stream
         ensures { result ≡ stream_of self.now stream }
     {
-        if stream < 12 {
-            self.streams[stream]
-        } else {
-            Stream { least: 0, comes: 0 }
-        }
+        self.streams
+            .get(stream)
+            .copied()
+            .unwrap_or(Stream { least: 0, comes: 0 })
     }
 
     // The row of the table with what has to be clear after a stream; empty past the last.
@@ -37,10 +37,9 @@ impl Junction {
         ensures { result.now ≡ row_in self.now stream }
     {
         if stream < self.count {
-            let start = stream * self.count;
-            &self.table[start..start + self.count]
+            row_at(&self.table, self.count, stream)
         } else {
-            &self.table[0..0]
+            &[]
         }
     }
 
@@ -48,22 +47,19 @@ impl Junction {
     pub fn clearing(&self, first: usize, next: usize) -> Option<u8>
         ensures { result ≡ clearing_of self.now first next }
     {
-        let row = self.row(first);
-        if next < row.len() {
-            seconds_in(row[next])
-        } else {
-            None
-        }
+        self.row(first)
+            .get(next)
+            .and_then(|&number| seconds_in(number))
     }
 
-    // Why a room is not taken for a plan of this junction.
-    pub fn refuse_room(&self, room: &[u8]) -> Option<Refusal>
-        ensures { result ≡ room_refusal self.now.count room.now }
+    // Whether a room is taken for a plan of this junction, or why it isn't.
+    pub fn check_room(&self, room: &[u8]) -> Result<(), Refusal>
+        ensures { result_err result ≡ room_refusal self.now.count room.now }
     {
         if room.len() == 2 * self.count {
-            None
+            Ok(())
         } else {
-            Some(Refusal::Room(room.len() as u64))
+            Err(Refusal::Room(room.len() as u64))
         }
     }
 }
@@ -72,5 +68,5 @@ impl Junction {
 fn seconds_in(number: u8) -> Option<u8>
     ensures { result ≡ seconds_in number }
 {
-    if number == 0 { None } else { Some(number - 1) }
+    number.checked_sub(1)
 }

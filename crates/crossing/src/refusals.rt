@@ -3,7 +3,7 @@ ghost use Rattle.std.specs.Prelude.{◌≡◌};
 ghost use Rattle.crossing.specs.Refusals.{number_of, place_of};
 
 // Each holds its place, counted from 0.
-#[derive(Clone, Copy)]
+#[derive(Clone, Copy, Debug, PartialEq, Eq)]
 pub enum Refusal {
     // A cycle of 0 or more than 120 seconds: the cycle.
     Cycle(u64),
@@ -34,11 +34,11 @@ impl Refusal {
         ensures { result ≡ place_of self }
     {
         match self {
-            Refusal::Cycle(at) => at,
-            Refusal::Streams(at) => at,
-            Refusal::Table(at) => at,
-            Refusal::Room(at) => at,
-            Refusal::Text(at) => at,
+            Refusal::Cycle(at)
+            | Refusal::Streams(at)
+            | Refusal::Table(at)
+            | Refusal::Room(at)
+            | Refusal::Text(at) => at,
         }
     }
 }

@@ -6,5 +6,5 @@ mod plans;
 mod seconds;
 
 pub use lights::Green;
-pub use plans::Plan;
-pub use seconds::Cycle;
+pub use plans::{MOST_STREAMS, Plan};
+pub use seconds::{Cycle, MOST_SECONDS};

@@ -1,4 +1,4 @@
-use Rattle.std.proofs.Common.{rules, tests, ◌≡◌, ◌∙◌, sym, not}
+use Rattle.std.proofs.Common.{rules, tests, ◌∙◌, sym, not}
 use Rattle.greens.specs.Plans.{green_of}
 use Rattle.crossing.specs.Good.{fits}
 use Rattle.crossing.specs.Taken.{site_of}

@@ -1,4 +1,4 @@
-use Rattle.std.proofs.Common.{rules, tests, not, refl}
+use Rattle.std.proofs.Common.{rules, tests, not}
 use Rattle.crossing.specs.Good.{apart, close}
 use Rattle.crossing.proofs.Ranges.{any_of}
 use Rattle.crossing.proofs.keeping.apart.Goals as goal

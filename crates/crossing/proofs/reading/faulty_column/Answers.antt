@@ -1,27 +1,23 @@
-use Rattle.std.proofs.Common.{length, sym, ◌∙◌, arith, below_more}
+use Rattle.std.proofs.Common.{rules, tests, ◌<◌, ◌+◌, ◌*◌, length}
+use Rattle.std.proofs.lemmas.Iterator.{serves_from_Range}
 use Rattle.crossing.specs.Numbers.{fault}
-use Rattle.crossing.proofs.Below.{first_is, first_none}
 use Rattle.crossing.proofs.Faults.{fault_row, place_within}
+use Rattle.crossing.proofs.Ranges.{find_of}
 use Rattle.crossing.proofs.reading.faulty_column.Goals as goal
 
-pub overflow_add-b : goal.overflow_add-b
-overflow_add-b c = omega (arith, place_within (length c.args.row.now) c.args.a c.loop-b.b (omega arith) (omega arith))
-
-pub bounds-table-b : goal.bounds-table-b
-bounds-table-b c = omega (arith, place_within (length c.args.row.now) c.args.a c.loop-b.b (omega arith) (omega arith))
-
-pub returns-then-at_fault : goal.returns-then-at_fault
-returns-then-at_fault c =
-    first_is (length c.args.row.now) (fault (length c.args.row.now) c.args.table.now c.args.a) c.loop-b.b (omega arith)
-    c.loop-b.invariant
-    (sym (c.at_fault.ensures ∙ fault_row c.args.row.now c.args.table.now c.args.a c.loop-b.b c.requires.is (omega arith)) ∙ c.if-at_fault.true)
-
-pub loop-b-preserved : goal.loop-b-preserved
-loop-b-preserved c =
-    below_more _ _ c.loop-b.invariant
-    (sym (c.at_fault.ensures ∙ fault_row c.args.row.now c.args.table.now c.args.a c.loop-b.b c.requires.is (omega arith)) ∙ c.if-at_fault.false)
+pub find-requires-clause-callable : goal.find-requires-clause-callable
+find-requires-clause-callable c =
+    serves_from_Range (λ x q k. search (rules, tests))
+    (λ x from to.
+    let n = length c.args.row.now in
+    let here : x < n = to in
+    let within : x * n + c.args.a < n * n = place_within n c.args.a x c.requires.there here in
+    search rules)
 
 pub returns : goal.returns
 returns c =
-    sym
-    (first_none (length c.args.row.now) (fault (length c.args.row.now) c.args.table.now c.args.a) (λ k h. c.loop-b.invariant k (omega arith)))
+    let n = length c.args.row.now in
+    find_of n (fault n c.args.table.now c.args.a) _ c.find.ensures.ran (search rules)
+    (λ x b q k.
+    let same = λ (h : x < n). fault_row c.args.row.now c.args.table.now c.args.a x c.requires.is h in
+    search (rules, tests, same))

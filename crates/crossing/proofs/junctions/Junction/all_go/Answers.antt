@@ -1,4 +1,4 @@
-use Rattle.std.proofs.Common.{rules, tests, nat_le, refl}
+use Rattle.std.proofs.Common.{rules, tests, nat_le}
 use Rattle.greens.specs.Plans.{green_of}
 use Rattle.crossing.specs.Good.{enough}
 use Rattle.crossing.specs.Taken.{site_of}

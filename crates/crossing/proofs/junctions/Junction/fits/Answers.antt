@@ -9,4 +9,3 @@ returns-then-stream-green c = search (rules, tests)
 pub returns-else-stream-green : goal.returns-else-stream-green
 unfolding fits
 returns-else-stream-green c = search (rules, tests)
-

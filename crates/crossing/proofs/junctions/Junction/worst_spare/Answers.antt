@@ -1,4 +1,4 @@
-use Rattle.std.proofs.Common.{rules, tests, arith, ◌≡◌, ◌∙◌, min, sym, ap, refl}
+use Rattle.std.proofs.Common.{rules, tests, ◌≡◌, ◌∙◌, min, sym}
 use Rattle.greens.specs.Plans.{green_of}
 use Rattle.crossing.specs.Below.{least_to}
 use Rattle.crossing.specs.Good.{worst, spare}
