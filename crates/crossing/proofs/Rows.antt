@@ -1,9 +1,9 @@
 -- Places in a table with a number for each two of n streams, row by row.
-use Rattle.std.proofs.Common.{◌≡◌, ℕ, suc, ◌+◌, ◌*◌, ◌<◌, ◌≤◌, List, length, get_or, None, ⊎_elim, mul-le-mul_right, suc-mul, mul-le-mul, arith, length-drop, length-take, get_or-drop, get_or-take}
-use Rattle.std.proofs.lemmas.Bool.{cases_lt, lt-ltb, le-ltb}
+use Rattle.std.proofs.Common.{◌≡◌, ℕ, suc, ◌+◌, ◌*◌, ◌<◌, ◌≤◌, List, length, get_or, mul-le-mul_right, suc-mul, mul-le-mul, arith, length-drop, length-take, get_or-drop, get_or-take}
+use Rattle.std.proofs.lemmas.Bool.{lt-ltb}
 use Rattle.crossing.specs.declared.junctions.Junction.{Junction}
 use Rattle.crossing.specs.Tables.{entry, row_of}
-use Rattle.crossing.specs.Taken.{seconds_in, clearing_of, row_in}
+use Rattle.crossing.specs.Taken.{row_in}
 
 -- a row ends within the table
 pub row_ends : (a n : ℕ) → a < n → a * n + n ≤ n * n
@@ -29,25 +29,3 @@ module _ (j : Junction) (a b : ℕ) (row : List ℕ) (is : row ≡ row_in j a) w
 
   pub row_holds : a < j.count → b < j.count → get_or row b 0 ≡ entry j.count j.table a b
   row_holds h inside = let here = lt-ltb a j.count h in simp (is, here) (row_entry j.count j.table a b inside)
-
-  gone : j.count ≤ a → length row ≡ 0
-  gone h = let past = le-ltb a j.count h in simp (is, past)
-
-  -- the seconds to clear stand in the row
-  pub row_clearing : b < length row → seconds_in (get_or row b 0) ≡ clearing_of j a b
-  row_clearing within =
-      ⊎_elim
-      (λ (h : a < j.count).
-      let here = lt-ltb a j.count h in
-      let inside : b < j.count = omega (arith, row_there h) in
-      let beside = lt-ltb b j.count inside in
-      simp (is, here, beside) (rw (row_entry j.count j.table a b inside)))
-      (λ (h : j.count ≤ a). absurd (omega (arith, gone h)))
-      (cases_lt a j.count)
-
-  pub row_past : length row ≤ b → None ≡ clearing_of j a b
-  row_past past =
-      ⊎_elim
-      (λ (h : a < j.count). let beside = le-ltb b j.count (omega (arith, row_there h)) in let here = lt-ltb a j.count h in simp (here, beside))
-      (λ (h : j.count ≤ a). let here = le-ltb a j.count h in simp here)
-      (cases_lt a j.count)

@@ -37,7 +37,10 @@ fn check_streams(streams: u64, pairs: &[u8]) -> Result<(), Refusal>
 fn at_fault(itself: bool, number: u8, back: u8) -> bool
     ensures { result ≡ at_fault itself number back }
 {
-    number > 121 || (itself && number > 0) || (number > 0 && back == 0) || (number == 0 && back > 0)
+    number > MOST_SECONDS + 1
+        || (itself && number > 0)
+        || (number > 0 && back == 0)
+        || (number == 0 && back > 0)
 }
 
 // The first column at fault in a row of the table, if there is one.
