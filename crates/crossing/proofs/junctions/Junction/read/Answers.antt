@@ -1,9 +1,8 @@
-use Rattle.std.proofs.Common.{rules, ◌≡◌, sym, ◌∙◌, subst, arith}
+use Rattle.std.proofs.Common.{rules, ◌≡◌, sym, ◌∙◌, subst}
 use Rattle.std.specs.Prelude.{Err}
 use Rattle.greens.specs.declared.seconds.Cycle.{Cycle}
 use Rattle.crossing.specs.Taken.{Read}
 use Rattle.crossing.proofs.Refused.{cycle_err, cycle_ok, cycle_taken, streams_taken, table_taken, faultless_both}
-use Rattle.crossing.proofs.Rows.{table_most}
 use Rattle.crossing.proofs.SameSite.{site_same}
 use Rattle.crossing.proofs.junctions.Junction.read.Goals as goal
 
@@ -31,12 +30,6 @@ returns-in_err-check_table c =
     subst (λ r. Read c.args.cycle c.args.streams c.args.pairs.now c.args.table.now r) (sym answer)
     (cycle_taken c.args.cycle c.args.streams c.args.pairs.now c.args.table.now cycle.1 cycle.2
     ∙ rw (sym c.in_ok-check_streams.ensures, sym c.in_err-check_table.ensures))
-
-pub table_in-requires : goal.table_in-requires
-table_in-requires c =
-    let streams = streams_taken c.args.streams c.args.pairs.now (sym c.in_ok-check_streams.ensures) in
-    let table = table_taken c.args.streams c.args.table.now (sym c.in_ok-check_table.ensures) in
-    omega (arith, table.whole, table_most c.args.streams streams.few)
 
 pub invariant_of-result : goal.invariant_of-result
 invariant_of-result c =
