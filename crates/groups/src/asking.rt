@@ -12,11 +12,7 @@ pub fn asked(junction: &Junction, spare: u8, stream: usize) -> u16
 {
     let ends = junction.stream(stream);
     let wanted = ends.comes as u16 + spare as u16;
-    if ends.least as u16 > wanted {
-        ends.least as u16
-    } else {
-        wanted
-    }
+    wanted.max(ends.least as u16)
 }
 
 // Whether two streams of the junction cross.
@@ -30,8 +26,5 @@ pub(crate) fn crosses(junction: &Junction, first: usize, next: usize) -> bool
 pub(crate) fn clear(junction: &Junction, first: usize, next: usize) -> u8
     ensures { first < junction.now.count → next < junction.now.count → result ≡ (site_of junction.now).clear first next }
 {
-    match junction.clearing(first, next) {
-        Some(seconds) => seconds,
-        None => 0,
-    }
+    junction.clearing(first, next).unwrap_or(0)
 }

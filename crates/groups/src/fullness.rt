@@ -11,22 +11,27 @@ use crossing::Junction;
 
 impl Group {
     // It is a group, all its members have to have a green, and together they need more than the cycle.
+    #[tactic(auto, unfolding(crate::specs::Groups::overfull))]
     pub fn is_overfull(&self, junction: &Junction, spare: u8) -> bool
         ensures { result ≡ overfull (site_of junction.now) spare (member_of self.now) }
     {
         let cycle = junction.cycle().seconds() as u16;
         self.all_cross(junction)
-            & (self.all_want(junction, spare) & (self.need(junction, spare) > cycle))
+            && self.all_want(junction, spare)
+            && self.need(junction, spare) > cycle
     }
 
     // Whether all the members have to have a green.
     fn all_want(&self, junction: &Junction, spare: u8) -> bool
         ensures { result ≡ all_to junction.now.count (wants (site_of junction.now) spare (member_of self.now)) }
     {
-        let mut all = true;
-        for stream in 0..junction.streams() {
-            all = (!self.has(stream) | (asking::asked(junction, spare, stream) > 0)) & all;
-        }
-        all
+        (0..junction.streams()).all(|stream| self.wants(junction, spare, stream))
+    }
+
+    // Whether a stream, if it is a member, has to have a green.
+    fn wants(&self, junction: &Junction, spare: u8, stream: usize) -> bool
+        ensures { result ≡ wants (site_of junction.now) spare (member_of self.now) stream }
+    {
+        !self.has(stream) || asking::asked(junction, spare, stream) > 0
     }
 }

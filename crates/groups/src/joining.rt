@@ -19,7 +19,7 @@ impl Group {
     pub fn has(&self, stream: usize) -> bool
         ensures { result ≡ member_of self.now stream }
     {
-        stream < 12 && self.member[stream]
+        self.member.get(stream).copied().unwrap_or(false)
     }
 
     // Whether the second stream is another member than the first.

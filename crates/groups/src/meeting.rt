@@ -14,11 +14,7 @@ impl Group {
     pub fn all_cross(&self, junction: &Junction) -> bool
         ensures { result ≡ all_cross (site_of junction.now) (member_of self.now) }
     {
-        let mut all = true;
-        for stream in 0..junction.streams() {
-            all = self.meets_all(junction, stream) & all;
-        }
-        all
+        (0..junction.streams()).all(|stream| self.meets_all(junction, stream))
     }
 
     // Whether a stream, if it is a member, crosses every other one.
@@ -26,11 +22,7 @@ impl Group {
         ensures { stream < junction.now.count →
             result ≡ all_to junction.now.count (meets (site_of junction.now) (member_of self.now) stream) }
     {
-        let mut all = true;
-        for next in 0..junction.streams() {
-            all = self.meets(junction, stream, next) & all;
-        }
-        all
+        (0..junction.streams()).all(|next| self.meets(junction, stream, next))
     }
 
     // Whether two streams, if they are two members, cross.
