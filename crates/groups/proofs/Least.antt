@@ -16,15 +16,6 @@ some_out n test = (some_decides n test).0
 pub some_in : (n : ℕ) (test : ℕ → Bool) (k : ℕ) → k < n → test k ≡ true → some_to n test ≡ true
 some_in n test k h e = (some_decides n test).1 (k, h, e)
 
-pub some_more : (n : ℕ) (test : ℕ → Bool) → some_to (n + 1) test ≡ (test n || some_to n test)
-unfolding some_to
-some_more n test = rw add-one
-
-pub among_more : (n : ℕ) (test : ℕ → Bool) (figure : ℕ → ℕ) → least_among (n + 1) test figure
-    ≡ cond (test n) (cond (some_to n test) (min (figure n) (least_among n test figure)) (figure n)) (least_among n test figure)
-unfolding least_among
-among_more n test figure = rw add-one
-
 pub among_none : (n : ℕ) (test : ℕ → Bool) (figure : ℕ → ℕ) → some_to n test ≡ false → least_among n test figure ≡ 0
 unfolding some_to least_among
 among_none zero test figure e = refl
@@ -45,19 +36,3 @@ among_out (suc n) test figure k h e =
     let found : some_to n test ≡ true = some_in n test k (omega arith) e in
     grind (arith, nat_tests))
     (cases_eq k n)
-
--- one turn of a loop that looks for the least: a number that passes is compared with the least so far, if there is one
-pub among_took : (n : ℕ) (test : ℕ → Bool) (figure : ℕ → ℕ) (found : Bool) (least here next : ℕ) → found ≡ some_to n test → test n ≡ true →
-    least ≡ least_among n test figure → here ≡ figure n → next ≡ cond found (min here least) here → next ≡ least_among (n + 1) test figure
-among_took n test figure found least here next e passes before at is =
-    let more = among_more n test figure in rw (more, passes, ← e, ← before, ← at) is
-
-pub among_left : (n : ℕ) (test : ℕ → Bool) (figure : ℕ → ℕ) (least : ℕ) → test n ≡ false →
-    least ≡ least_among n test figure → least ≡ least_among (n + 1) test figure
-among_left n test figure least here before = rw (among_more, here) before
-
-pub some_took : (n : ℕ) (test : ℕ → Bool) → test n ≡ true → true ≡ some_to (n + 1) test
-some_took n test here = rw (some_more, here)
-
-pub some_left : (n : ℕ) (test : ℕ → Bool) (found : Bool) → test n ≡ false → found ≡ some_to n test → found ≡ some_to (n + 1) test
-some_left n test found here before = rw (some_more, here) before

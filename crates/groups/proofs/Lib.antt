@@ -1,4 +1,4 @@
-pub mod Every
+pub mod Chains
 pub mod Sums
 pub mod Least
 pub mod Shared

@@ -4,14 +4,6 @@ use Rattle.std.proofs.lemmas.Bool.{cases_Bool}
 use Rattle.greens.specs.Greens.{count_to}
 use Rattle.crossing.specs.Below.{sum_to}
 
-pub sum_none : (figure : ℕ → ℕ) → sum_to 0 figure ≡ 0
-unfolding sum_to
-sum_none figure = refl
-
-pub sum_more : (n : ℕ) (figure : ℕ → ℕ) → sum_to (n + 1) figure ≡ sum_to n figure + figure n
-unfolding sum_to
-sum_more n figure = rw add-one
-
 -- a sum of no larger figures is no larger
 pub sum_mono : (n : ℕ) (f g : ℕ → ℕ) → ((k : ℕ) → k < n → f k ≤ g k) → sum_to n f ≤ sum_to n g
 unfolding sum_to

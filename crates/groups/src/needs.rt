@@ -26,10 +26,8 @@ impl Group {
     pub fn need(&self, junction: &Junction, spare: u8) -> u16
         ensures { result ≡ need (site_of junction.now) (asked (site_of junction.now) spare) (member_of self.now) }
     {
-        let mut sum = 0;
-        for stream in 0..junction.streams() {
-            sum += self.share(junction, spare, stream);
-        }
-        sum
+        (0..junction.streams())
+            .map(|stream| self.share(junction, spare, stream))
+            .sum()
     }
 }

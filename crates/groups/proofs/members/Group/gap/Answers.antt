@@ -1,36 +1,22 @@
-use Rattle.std.proofs.Common.{◌≡◌, ℕ, Bool, true, false, sym, refl, ◌∙◌, arith}
+use Rattle.std.proofs.Common.{◌<◌, ◌∙◌, rules, tests, arith}
+use Rattle.std.proofs.lemmas.Iterator.{YieldsList-from_range}
+use Rattle.std.proofs.lemmas.Iterator.Consumers.{YieldsList-from_filter, YieldsList-at, min_from_yields_List}
+use Rattle.std.proofs.lemmas.List.Elements.{All-filter}
+use Rattle.std.specs.List.{range_with_len}
 use Rattle.crossing.specs.Taken.{site_of}
-use Rattle.groups.specs.Among.{some_to, least_among}
 use Rattle.groups.specs.Groups.{other, gap}
 use Rattle.groups.specs.Members.{member_of}
-use Rattle.groups.proofs.Least.{among_took, among_left, some_took, some_left}
+use Rattle.groups.proofs.Chains.{range_below, map_within, least_of_range}
 use Rattle.groups.proofs.members.Group.gap.Goals as goal
-use Rattle.groups.proofs.members.Group.gap.Goals.{then-has_other, else-has_other}
-
-pub loop-next-init : goal.loop-next-init
-unfolding some_to least_among
-loop-next-init c = (refl, λ h. refl)
-
-pub loop-next-preserved : goal.loop-next-preserved
-loop-next-preserved c =
-    let test : ℕ → Bool = other (member_of c.args.self.now) c.args.stream in
-    let figure : ℕ → ℕ = (site_of c.args.junction.now).clear c.args.stream in
-    elim c.if-has_other.branch [
-      | then-has_other w ↦
-          let here : test c.loop-next.next ≡ true = sym c.has_other.ensures ∙ w.if-has_other.true in (
-            w.found-is ∙ some_took c.loop-next.next test here,
-            λ h. w.least-is ∙ among_took c.loop-next.next test figure c.loop-next.found c.loop-next.least w.clear.result w.lesser-least.result
-                c.loop-next.invariant.0 here (c.loop-next.invariant.1 h) (w.clear.ensures h (omega arith)) w.lesser-least.ensures,
-          )
-      | else-has_other w ↦
-          let here : test c.loop-next.next ≡ false = sym c.has_other.ensures ∙ w.if-has_other.false in (
-            w.found-is ∙ some_left c.loop-next.next test c.loop-next.found here c.loop-next.invariant.0,
-            λ h. w.least-is ∙ among_left c.loop-next.next test figure c.loop-next.least here (c.loop-next.invariant.1 h),
-          )
-    ]
 
 pub returns : goal.returns
 unfolding gap
-returns c =
-    let all : c.loop-next.next ≡ c.args.junction.now.count = omega arith in
-    λ h. rw all at (c.loop-next.invariant.1 h)
+returns c = λ there.
+    c.unwrap_or.ensures ∙ least_of_range c.args.junction.now.count (other (member_of c.args.self.now) c.args.stream) ((site_of c.args.junction.now).clear c.args.stream) c.min.result
+    (min_from_yields_List c.map.result c.min.result c.min.ensures.ran
+    (map_within (λ x. x < c.args.junction.now.count) _ ((site_of c.args.junction.now).clear c.args.stream)
+    (All-filter (other (member_of c.args.self.now) c.args.stream) (λ x. x < c.args.junction.now.count) _ (range_below c.args.junction.now.count))
+    (YieldsList-at c.map.ensures.source (YieldsList-from_filter _ (other (member_of c.args.self.now) c.args.stream)
+    (YieldsList-at c.filter.ensures.source (YieldsList-from_range 0 c.args.junction.now.count c.args.junction.now.count (search rules) (omega arith)))
+    c.filter.ensures.closure (λ x b q k. search (rules, tests))))
+    c.map.ensures.closure (λ x r q k. search rules)))
