@@ -1,12 +1,12 @@
 -- What a chain over the numbers below a number answers, in the words of `Below` and `Among`.
-use Rattle.std.proofs.Common.{◌≡◌, ℕ, zero, suc, ◌+◌, ◌<◌, ◌≤◌, min, Bool, true, false, cond, ◌||◌, List, [], ◌∷◌, ◌++◌, map, sum, Option, Some, None, length, get_or, refl, sym, ◌∙◌, ap, subst, ⊎_elim, add-one, arith}
+use Rattle.std.proofs.Common.{◌≡◌, ℕ, zero, suc, ◌+◌, ◌<◌, min, Bool, true, false, cond, ◌||◌, List, [], ◌∷◌, ◌++◌, map, sum, Option, Some, None, refl, sym, ◌∙◌, ap, subst, ⊎_elim, add-one, arith}
 use Rattle.std.specs.Fn.{Called}
 use Rattle.std.specs.Option.{unwrap_or, option_map}
 use Rattle.std.proofs.lemmas.Iterator.Adapters.{option_map_id}
 use Rattle.groups.proofs.Least.{among_none}
 use Rattle.std.specs.Iterator.{AlwaysYields}
 use Rattle.std.specs.Iterator.Adapters.{map_source, map_callee}
-use Rattle.std.specs.List.{range_with_len, reduce, filter, fold, All}
+use Rattle.std.specs.List.{range_with_len, reduce, filter, All}
 use Rattle.std.specs.declared.iter.Map.{Map}
 use Rattle.std.proofs.lemmas.Iterator.{YieldsList, maps}
 use Rattle.std.proofs.lemmas.Bool.{cases_Bool}

@@ -1,5 +1,5 @@
 -- What is too much to spare: more than the cycle leaves to a stream, or to a group.
-use Rattle.std.proofs.Common.{◌≡◌, ℕ, ◌+◌, ◌-◌, ◌<◌, ◌≤◌, max, Bool, true, not, ◌&&◌, ◌||◌, ltb, ⊎_elim, arith}
+use Rattle.std.proofs.Common.{◌≡◌, ℕ, ◌+◌, ◌-◌, ◌<◌, ◌≤◌, max, Bool, true, false, cond, Option, Some, None, not, ◌&&◌, ◌||◌, ltb, ⊎_elim, arith}
 use Rattle.std.proofs.lemmas.Bool.{and_parts, ltb-true, cases_lt}
 use Rattle.crossing.specs.Below.{all_to}
 use Rattle.crossing.specs.Site.{Site, Greens}
@@ -7,7 +7,8 @@ use Rattle.crossing.specs.Good.{good, enough, spare, worst}
 use Rattle.crossing.proofs.Below.{all_out, least_out, least_bound}
 use Rattle.crossing.proofs.Good.{good_out, enough_out}
 use Rattle.groups.specs.Groups.{all_cross, need, asked, wants, overfull}
-use Rattle.groups.specs.Spares.{Under}
+use Rattle.groups.specs.Spares.{Under, AtMost}
+use Rattle.std.specs.Option.{SomeIff}
 use Rattle.groups.proofs.Claims.{shares}
 
 -- if the worst-off stream has w to spare, every green is as long as that asks
@@ -79,3 +80,22 @@ under_short j k h short = record {
       let least_long = ((good_out j q is_good).fitting k h).least_long in
       absurd (omega (arith, enough_out j q all_go k h));
 }
+
+-- what cannot be had leaves one less, or no plan
+pub under_most : (j : Site) (w : ℕ) (r : Option ℕ) → Under j w → SomeIff r (1 ≤ w) (w - 1) → AtMost j r
+under_most j w None under none = λ q is_good all_go. none (omega (arith, under.each q is_good all_go))
+under_most j w (Some most) under is = λ q is_good all_go. omega (arith, under.each q is_good all_go, is.0, is.1)
+
+-- nobody has more to spare than what the cycle leaves to a stream
+pub most_stream : (j : Site) (k : ℕ) (r : Option ℕ) → k < j.streams → SomeIff r (j.comes k ≤ j.cycle) (j.cycle - j.comes k) → AtMost j r
+most_stream j k None h none = λ q is_good all_go. none (
+    ⊎_elim
+    (λ (short : j.cycle < j.comes k). absurd (omega (arith, (under_short j k h (omega arith)).each q is_good all_go)))
+    (λ (long : j.comes k ≤ j.cycle). long)
+    (cases_lt j.cycle (j.comes k)))
+most_stream j k (Some most) h is = λ q is_good all_go. omega (arith, (under_stream j k h).each q is_good all_go, is.0, is.1)
+
+-- one of two bounds
+pub most_either : (j : Site) (b : Bool) (r s : Option ℕ) → AtMost j r → AtMost j s → AtMost j (cond b r s)
+most_either j true r s one other = one
+most_either j false r s one other = other

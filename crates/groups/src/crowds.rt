@@ -2,13 +2,13 @@
 ghost use Rattle.std.specs.Prelude.{◌≡◌, length};
 
 use crate::members::Group;
+use crossing::Junction;
 
 #[derive(Clone, Copy)]
-pub(crate) struct Crowd {
+pub(crate) struct Crowd<'a> {
+    pub(crate) junction: &'a Junction,
     pub(crate) group: Group,
-    // For each stream, the least seconds to clear after it before a member; 255 before the first.
-    pub(crate) gaps: [u8; 12],
-    // Whether a stream crosses every member.
-    pub(crate) free: [bool; 12],
-    ghost sized: { (length gaps ≡ 12) × (length free ≡ 12) },
+    // For each stream that crosses every other member, the least seconds to clear after it before one; the most that there can be before the first joins.
+    pub(crate) gaps: [Option<u8>; 12],
+    ghost sized: { length gaps ≡ 12 },
 }

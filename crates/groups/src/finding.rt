@@ -10,24 +10,24 @@ use crossing::Junction;
 pub fn overfull(junction: &Junction, spare: u8) -> Option<Group>
     ensures { Why (site_of junction.now) spare result }
 {
-    find(junction, &Crowd::new(junction), 0, spare)
+    find(&Crowd::new(junction), 0, spare)
 }
 
 // Such a group that has the members of the crowd and others from the stream `next` on: with that stream first, then without it.
-fn find(junction: &Junction, crowd: &Crowd, next: usize, spare: u8) -> Option<Group>
-    ensures { Why (site_of junction.now) spare result }
+fn find(crowd: &Crowd, next: usize, spare: u8) -> Option<Group>
+    ensures { Why (site_of crowd.now.junction.now) spare result }
 {
-    if next >= junction.streams() || !crowd.seems_full(junction, next, spare) {
+    if next >= crowd.junction.streams() || !crowd.seems_full(next, spare) {
         return None;
     }
     if crowd.takes(next) {
-        let with = crowd.with(junction, next);
-        if with.group.is_overfull(junction, spare) {
+        let with = crowd.with(next);
+        if with.group.is_overfull(with.junction, spare) {
             return Some(with.group);
         }
-        if let Some(group) = find(junction, &with, next + 1, spare) {
+        if let Some(group) = find(&with, next + 1, spare) {
             return Some(group);
         }
     }
-    find(junction, crowd, next + 1, spare)
+    find(crowd, next + 1, spare)
 }

@@ -1,81 +1,82 @@
 // How a group grows, and guesses at whether it is overfull. Nothing rests on a guess: who follows one looks at the group itself.
+ghost use Rattle.std.specs.Prelude.{◌≡◌};
+
 use crate::asking;
 use crate::crowds::Crowd;
 use crate::members::Group;
 use crossing::Junction;
+use std::array;
 
-impl Crowd {
-    // Nobody yet, and everybody may come in.
-    pub(crate) fn new(junction: &Junction) -> Crowd {
-        let mut gaps = [0; 12];
-        for stream in 0..12 {
-            gaps[stream] = most_clearing(junction, stream);
-        }
+impl<'a> Crowd<'a> {
+    // Nobody yet, and every stream of the junction may come in.
+    pub(crate) fn new(junction: &'a Junction) -> Crowd<'a>
+        ensures { result.junction.now ≡ junction.now }
+    {
         Crowd {
+            junction,
             group: Group::new(),
-            gaps: gaps,
-            free: [true; 12],
+            gaps: array::from_fn(|stream| most_clearing(junction, stream)),
         }
     }
 
-    // Whether a stream crosses every member.
+    // Whether a stream that is no member crosses every member.
     pub(crate) fn takes(&self, stream: usize) -> bool {
-        stream < 12 && self.free[stream]
+        matches!(self.gaps.get(stream), Some(Some(_)))
     }
 
     // The group with one more member.
-    pub(crate) fn with(&self, junction: &Junction, stream: usize) -> Crowd {
+    pub(crate) fn with(&self, stream: usize) -> Crowd<'a>
+        ensures { result.junction.now ≡ self.now.junction.now }
+    {
         let mut group = self.group;
-        let mut gaps = self.gaps;
-        let mut free = self.free;
         group.join(stream);
-        for other in 0..12 {
-            match junction.clearing(other, stream) {
-                Some(seconds) => gaps[other] = seconds.min(gaps[other]),
-                None => free[other] = false,
+        let mut gaps = self.gaps;
+        for (other, gap) in gaps.iter_mut().enumerate() {
+            if other != stream {
+                *gap = gap
+                    .zip(self.junction.clearing(other, stream))
+                    .map(|(least, seconds)| least.min(seconds));
             }
         }
         Crowd {
-            group: group,
-            gaps: gaps,
-            free: free,
+            junction: self.junction,
+            group,
+            gaps,
         }
     }
 
     // Whether the group seems overfull with all that may come in from the stream `next` on, if every stream is to have so much to spare.
     // No group between the two needs more: as a group grows, what has to be clear gets less.
-    pub(crate) fn seems_full(&self, junction: &Junction, next: usize, spare: u8) -> bool {
-        let cycle = junction.cycle().seconds() as u16;
+    pub(crate) fn seems_full(&self, next: usize, spare: u8) -> bool {
+        let cycle = self.junction.cycle().seconds() as u16;
         let mut sum = 0;
-        for stream in 0..junction.streams() {
+        for (stream, gap) in self.gaps.iter().enumerate() {
             let member = self.group.has(stream);
-            if member | ((stream >= next) & self.free[stream]) {
-                let long = asking::asked(junction, spare, stream);
-                if long > 0 {
-                    sum += (long + self.gaps[stream] as u16).min(cycle);
-                } else if member {
-                    return false;
+            if let Some(gap) = gap {
+                if member || stream >= next {
+                    let long = asking::asked(self.junction, spare, stream);
+                    if long > 0 {
+                        sum += (long + *gap as u16).min(cycle);
+                    } else if member {
+                        return false;
+                    }
                 }
             }
         }
         sum > cycle
     }
 
-    // The least below which the group seems to leave what every stream has to spare.
-    pub(crate) fn seems_under(&self, junction: &Junction, below: u8) -> u8 {
-        let mut under = below;
-        while under > 0 && self.seems_full(junction, 12, under - 1) {
-            under -= 1;
-        }
-        under
+    // The least that seems too much to spare for the group, from `most` down; none where `most` doesn't.
+    pub(crate) fn seems_too_much(&self, most: u8) -> Option<u8> {
+        (0..=most)
+            .rev()
+            .take_while(|&spare| self.seems_full(12, spare))
+            .last()
     }
 }
 
-// The most seconds to clear after a stream.
-fn most_clearing(junction: &Junction, stream: usize) -> u8 {
-    let mut most = 0;
-    for number in junction.row(stream) {
-        most = number.saturating_sub(1).max(most);
-    }
-    most
+// The most seconds to clear after a stream; none past the last one.
+fn most_clearing(junction: &Junction, stream: usize) -> Option<u8> {
+    let row = junction.row(stream);
+    row.iter().map(|number| number.saturating_sub(1)).max()
 }

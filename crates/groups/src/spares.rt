@@ -1,6 +1,7 @@
 // How much can be spared at most, by all the groups of a junction.
+ghost use Rattle.std.specs.Prelude.{◌<◌};
 ghost use Rattle.crossing.specs.Taken.{site_of};
-ghost use Rattle.groups.specs.Spares.{Under, AtMost};
+ghost use Rattle.groups.specs.Spares.{AtMost};
 
 use crate::crowds::Crowd;
 use crossing::Junction;
@@ -9,51 +10,54 @@ use crossing::Junction;
 pub fn most_spare(junction: &Junction) -> Option<u8>
     ensures { AtMost (site_of junction.now) result }
 {
-    let under = lower(junction, &Crowd::new(junction), 0, least_left(junction));
-    if under == 0 { None } else { Some(under - 1) }
+    lower(&Crowd::new(junction), 0, least_left(junction))
 }
 
-// What the cycle leaves to the stream that it leaves least, and one more; 0 where it is too short for a stream.
-fn least_left(junction: &Junction) -> u8
-    ensures { Under (site_of junction.now) result }
+// What the cycle leaves to the stream that it leaves least; none where it is too short for one.
+fn least_left(junction: &Junction) -> Option<u8>
+    ensures { AtMost (site_of junction.now) result }
 {
     let cycle = junction.cycle().seconds();
-    let mut under = cycle + 1;
-    for k in 0..junction.streams() {
-        let stream = junction.stream(k);
-        if stream.least > cycle || stream.comes > cycle {
-            return 0;
-        }
-        under = under.min(cycle - stream.comes + 1);
+    (0..junction.streams()).fold(Some(cycle), |most, stream| most.min(left(junction, stream)))
+}
+
+// What the cycle leaves to a stream; none where it is too short for it.
+fn left(junction: &Junction, stream: usize) -> Option<u8>
+    ensures { stream < junction.now.count → AtMost (site_of junction.now) result }
+{
+    let cycle = junction.cycle().seconds();
+    let ends = junction.stream(stream);
+    if ends.least > cycle {
+        None
+    } else {
+        cycle.checked_sub(ends.comes)
     }
-    under
 }
 
 // Lowers a bound by every group that has the members of the crowd and others from the stream `next` on: with that stream first, then without it.
-fn lower(junction: &Junction, crowd: &Crowd, next: usize, under: u8) -> u8
-    requires { Under (site_of junction.now) under }
-    ensures { Under (site_of junction.now) result }
+fn lower(crowd: &Crowd, next: usize, most: Option<u8>) -> Option<u8>
+    requires { AtMost (site_of crowd.now.junction.now) most }
+    ensures { AtMost (site_of crowd.now.junction.now) result }
 {
-    if next >= junction.streams() || under == 0 || !crowd.seems_full(junction, next, under - 1) {
-        return under;
+    let worth = most.is_some_and(|spare| crowd.seems_full(next, spare));
+    if next >= crowd.junction.streams() || !worth {
+        return most;
     }
-    let mut less = under;
+    let mut less = most;
     if crowd.takes(next) {
-        let with = crowd.with(junction, next);
-        less = lower(junction, &with, next + 1, lower_by(junction, &with, under));
+        let with = crowd.with(next);
+        less = lower(&with, next + 1, lower_by(&with, most));
     }
-    lower(junction, crowd, next + 1, less)
+    lower(crowd, next + 1, less)
 }
 
 // Lowers a bound by one group.
-fn lower_by(junction: &Junction, crowd: &Crowd, under: u8) -> u8
-    requires { Under (site_of junction.now) under }
-    ensures { Under (site_of junction.now) result }
+fn lower_by(crowd: &Crowd, most: Option<u8>) -> Option<u8>
+    requires { AtMost (site_of crowd.now.junction.now) most }
+    ensures { AtMost (site_of crowd.now.junction.now) result }
 {
-    let guess = crowd.seems_under(junction, under);
-    if guess < under && crowd.group.is_overfull(junction, guess) {
-        guess
-    } else {
-        under
+    match most.and_then(|most| crowd.seems_too_much(most)) {
+        Some(spare) if crowd.group.is_overfull(crowd.junction, spare) => spare.checked_sub(1),
+        _ => most,
     }
 }

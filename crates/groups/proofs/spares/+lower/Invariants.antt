@@ -3,4 +3,4 @@ use Rattle.groups.proofs.spares.+lower.Given as goal
 
 -- how many streams are left
 abbrev pub decreases-lower : goal.decreases-lower
-decreases-lower l = l.junction.now.count - l.next
+decreases-lower l = l.crowd.now.junction.now.count - l.next

@@ -1,9 +1,8 @@
-use Rattle.std.proofs.Common.{◌≡◌, ◌<◌, ◌∙◌, rules, tests, sym, arith}
+use Rattle.std.proofs.Common.{◌<◌, ◌∙◌, rules, tests, arith}
 use Rattle.std.proofs.lemmas.Iterator.{YieldsList-from_range}
 use Rattle.std.proofs.lemmas.Iterator.Adapters.{at_most_from_yields_List, fits_from_length}
 use Rattle.std.proofs.lemmas.Iterator.Consumers.{YieldsList-at, sum_from_yields_List}
 use Rattle.std.proofs.lemmas.List.FromFn.{length-range_with_len}
-use Rattle.crossing.specs.Site.{Site}
 use Rattle.crossing.specs.Taken.{site_of}
 use Rattle.groups.specs.Groups.{need, asked, share}
 use Rattle.groups.specs.Members.{member_of}
