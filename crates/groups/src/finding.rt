@@ -4,30 +4,36 @@ ghost use Rattle.groups.specs.Whys.{Why};
 
 use crate::crowds::Crowd;
 use crate::members::Group;
+use crate::walking::{Quest, walk};
 use crossing::Junction;
 
 // A group that is overfull, if every stream is to have so much to spare. Where none is found, there may still be no plan.
 pub fn overfull(junction: &Junction, spare: u8) -> Option<Group>
     ensures { Why (site_of junction.now) spare result }
 {
-    find(&Crowd::new(junction), 0, spare)
+    walk(OverfullGroup { spare }, &Crowd::new(junction), 0, None)
 }
 
-// Such a group that has the members of the crowd and others from the stream `next` on: with that stream first, then without it.
-fn find(crowd: &Crowd, next: usize, spare: u8) -> Option<Group>
-    ensures { Why (site_of crowd.now.junction.now) spare result }
-{
-    if next >= crowd.junction.streams() || !crowd.seems_full(next, spare) {
-        return None;
+// The first group that is overfull.
+#[derive(Clone, Copy)]
+struct OverfullGroup {
+    spare: u8,
+}
+
+impl Quest for OverfullGroup {
+    type Found = Option<Group>;
+
+    ghost says = { λ site it. Why site it.spare };
+
+    fn sought(self, found: Option<Group>) -> Option<u8> {
+        found.is_none().then_some(self.spare)
     }
-    if crowd.takes(next) {
-        let with = crowd.with(next);
-        if with.group.is_overfull(with.junction, spare) {
-            return Some(with.group);
-        }
-        if let Some(group) = find(&with, next + 1, spare) {
-            return Some(group);
+
+    fn look(self, crowd: &Crowd, found: Option<Group>) -> Option<Group> {
+        if crowd.group.is_overfull(crowd.junction, self.spare) {
+            Some(crowd.group)
+        } else {
+            found
         }
     }
-    find(crowd, next + 1, spare)
 }

@@ -52,14 +52,13 @@ impl<'a> Crowd<'a> {
         let mut sum = 0;
         for (stream, gap) in self.gaps.iter().enumerate() {
             let member = self.group.has(stream);
-            if let Some(gap) = gap {
-                if member || stream >= next {
-                    let long = asking::asked(self.junction, spare, stream);
-                    if long > 0 {
-                        sum += (long + *gap as u16).min(cycle);
-                    } else if member {
-                        return false;
-                    }
+            if let Some(gap) = gap
+                && (member || stream >= next)
+            {
+                match asking::asked(self.junction, spare, stream) {
+                    0 if member => return false,
+                    0 => {}
+                    long => sum += (long + *gap as u16).min(cycle),
                 }
             }
         }
@@ -70,7 +69,7 @@ impl<'a> Crowd<'a> {
     pub(crate) fn seems_too_much(&self, most: u8) -> Option<u8> {
         (0..=most)
             .rev()
-            .take_while(|&spare| self.seems_full(12, spare))
+            .take_while(|&spare| self.seems_full(self.gaps.len(), spare))
             .last()
     }
 }

@@ -13,6 +13,7 @@ mod meeting;
 mod members;
 mod needs;
 mod spares;
+mod walking;
 
 pub use asking::asked;
 pub use finding::overfull;

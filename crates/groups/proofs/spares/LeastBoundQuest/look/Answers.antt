@@ -2,7 +2,7 @@ use Rattle.std.proofs.Common.{sym, ◌∙◌}
 use Rattle.crossing.specs.Taken.{site_of}
 use Rattle.groups.specs.Members.{member_of}
 use Rattle.groups.proofs.Spare.{too_much, under_most}
-use Rattle.groups.proofs.spares.lower_by.Goals as goal
+use Rattle.groups.proofs.spares.LeastBoundQuest.look.Goals as goal
 
 pub returns-in-Some : goal.returns-in-Some
 returns-in-Some c =

@@ -1,7 +1,7 @@
 use Rattle.std.proofs.Common.{◌≡◌, arith}
 use Rattle.crossing.specs.Taken.{site_of}
 use Rattle.groups.proofs.Spare.{under_short, most_stream}
-use Rattle.groups.proofs.spares.left.Goals as goal
+use Rattle.groups.proofs.spares.left_to.Goals as goal
 
 pub returns-then-ends-cycle : goal.returns-then-ends-cycle
 returns-then-ends-cycle c = λ there q is_good all_go.
