@@ -30,6 +30,7 @@ impl Group {
     }
 
     // Takes a stream in; past the twelfth there is none to take in.
+    #[tactic(auto, using(std::proofs::lemmas::List::set_past))]
     pub fn join(&mut self, stream: usize)
         ensures { self.new.member ≡ slice_set self.old.member stream true }
     {

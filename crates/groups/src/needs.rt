@@ -10,6 +10,7 @@ use crossing::Junction;
 
 impl Group {
     // What a stream of the junction takes: if it is a member, how long its green has to be and the least seconds to clear after it before another.
+    #[tactic(auto, unfolding(crate::specs::Groups::share))]
     pub fn share(&self, junction: &Junction, spare: u8, stream: usize) -> u16
         ensures is { stream < junction.now.count →
             result ≡ share (site_of junction.now) (asked (site_of junction.now) spare) (member_of self.now) stream }
