@@ -1,4 +1,5 @@
 // A set of streams, by value: for each of the twelve that a junction can have, whether it is a member.
+// The junction and what is to be spared come with each question: a set is asked for many spares, so to hold them would be no plainer.
 ghost use Rattle.std.specs.Prelude.{◌≡◌, length};
 
 #[derive(Clone, Copy, Debug, PartialEq, Eq)]
