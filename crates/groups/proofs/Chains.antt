@@ -82,11 +82,11 @@ passing_more n test figure =
 least_passing : (n : ℕ) (test : ℕ → Bool) (figure : ℕ → ℕ) → Option ℕ
 least_passing n test figure = cond (some_to n test) (Some (least_among n test figure)) None
 
-least_push : (found here : Bool) (least new : ℕ) →
+least_push : (found : Bool) (least new : ℕ) →
     Some (lesser (cond found (Some least) None) new) ≡ cond (true || found) (Some (cond true (cond found (min new least) new) least)) None
 unfolding lesser
-least_push true here least new = ap Some (omega arith)
-least_push false here least new = refl
+least_push true least new = ap Some (omega arith)
+least_push false least new = refl
 
 min_of_range : (n : ℕ) (test : ℕ → Bool) (figure : ℕ → ℕ) → reduce min (map figure (filter test (range_with_len 0 n))) ≡ least_passing n test figure
 unfolding some_to least_among least_passing
@@ -94,7 +94,7 @@ min_of_range zero test figure = refl
 min_of_range (suc n) test figure =
     let before = min_of_range n test figure in
     ap (reduce min) (passing_more n test figure) ∙ ⊎_elim
-    (λ (here : test n ≡ true). rw here (reduce_push (map figure (filter test (range_with_len 0 n))) (figure n) ∙ rw before (least_push (some_to n test) true (least_among n test figure) (figure n))))
+    (λ (here : test n ≡ true). rw here (reduce_push (map figure (filter test (range_with_len 0 n))) (figure n) ∙ rw before (least_push (some_to n test) (least_among n test figure) (figure n))))
     (λ (here : test n ≡ false). rw here (simp append-nil before))
     (cases_Bool (test n))
 
