@@ -10,7 +10,6 @@ pub fn too_close(cycle: Cycle, clear: u8, first: Green, next: Green, second: u8)
 {
     let since = cycle.after(first.from, second) as u16;
     let taken = first.long as u16 + clear as u16;
-    // Asked in each second of each plan that is tried: the three tests stand side by side, without a branch between them.
     (first.long > 0) & (next.on(cycle, second) & (since < taken))
 }
 
