@@ -1,10 +1,15 @@
 -- One plan more tried: what was found stays, or gives way to the new plan.
-use Rattle.std.proofs.Common.{◌≡◌, ◌≤◌, true, ◌⊎◌, Some, None, Option, ⊎_elim, arith}
+use Rattle.std.proofs.Common.{◌≡◌, ℕ, ◌≤◌, Bool, true, false, leb, ◌⊎◌, Some, None, Ok, Option, ⊎_elim, arith}
+use Rattle.std.proofs.lemmas.Bool.{cases_Bool, leb-true, leb-false}
+use Rattle.std.specs.Option.{option_and_then, option_or}
+use Rattle.std.specs.Bool.{then_some}
+use Rattle.crossing.specs.declared.junctions.Junction.{Junction}
+use Rattle.crossing.specs.Taken.{site_of}
 use Rattle.crossing.specs.Site.{Site, Greens}
 use Rattle.crossing.specs.Good.{good, enough, worst}
 use Rattle.planning.specs.declared.tries.Found.{Found}
 use Rattle.planning.specs.Alike.{Alike}
-use Rattle.planning.specs.Tries.{greens_of, Right, RightSoFar, NoBetter, Further}
+use Rattle.planning.specs.Tries.{greens_of, Right, RightSoFar, NoBetter, Further, AllTried}
 use Rattle.planning.proofs.Same.{alike_back, same_good, same_enough, same_worst}
 
 -- a plan that is not good, or in which not all can go, is no better than anything
@@ -21,34 +26,34 @@ stays j best p right bad =
       new = λ q alike. no_better_bad j best q (λ g e. bad (same_good j q p (alike_back j.streams p q alike) g) (same_enough j q p (alike_back j.streams p q alike) e));
     }
 
--- nor does one that leaves no more to spare
-pub stays_ahead : (j : Site) (best : Option Found) (f : Found) (p : Greens) → best ≡ Some f → RightSoFar j best → worst j p ≤ f.spare →
-    Further j best (Some f) (Alike j.streams p)
-stays_ahead j best f p is right less =
-    record {
-      right = rw is at right;
-      kept = λ q h. rw is at h;
-      new = λ q alike g e. omega (arith, same_worst j p q alike);
-    }
+-- what was found is kept where it leaves as much to spare, and else gives way
+abbrev pub kept : (found : Option Found) (spare : ℕ) → Option Found
+kept found spare = option_and_then (λ f. then_some (leb spare f.spare) f) found
 
--- the first plan found is taken
-pub takes_first : (j : Site) (best : Option Found) (f : Found) → best ≡ None → Right j f → Further j best (Some f) (Alike j.streams (greens_of f))
-takes_first j best f is right =
-    record {
+pub takes_or_keeps : (j : Site) (best : Option Found) (f : Found) → RightSoFar j best → Right j f →
+    Further j best (option_or (kept best f.spare) (Some f)) (Alike j.streams (greens_of f))
+takes_or_keeps j None f right new = record {
+  right = new;
+  kept = λ q none g e. absurd (none g e);
+  new = λ q alike g e. omega (arith, new.spares, same_worst j (greens_of f) q alike);
+}
+takes_or_keeps j (Some old) f right new =
+    ⊎_elim
+    (λ (stays : leb f.spare old.spare ≡ true).
+    rw stays
+    (record {
       right = right;
-      kept = λ q before g e. let none : NoBetter j None q = rw is at before in absurd (none g e);
-      new = λ q alike g e. omega (arith, right.spares, same_worst j (greens_of f) q alike);
-    }
-
--- and so is one that leaves more to spare
-pub takes_better : (j : Site) (best : Option Found) (old f : Found) → best ≡ Some old → Right j f → old.spare ≤ f.spare →
-    Further j best (Some f) (Alike j.streams (greens_of f))
-takes_better j best old f is right more =
-    record {
-      right = right;
-      kept = λ q before g e. let below : NoBetter j (Some old) q = rw is at before in omega (arith, below g e);
-      new = λ q alike g e. omega (arith, right.spares, same_worst j (greens_of f) q alike);
-    }
+      kept = λ q h. h;
+      new = λ q alike g e. omega (arith, leb-true f.spare old.spare stays, new.spares, same_worst j (greens_of f) q alike);
+    }))
+    (λ (gives_way : leb f.spare old.spare ≡ false).
+    rw gives_way
+    (record {
+      right = new;
+      kept = λ q below g e. omega (arith, below g e, leb-false f.spare old.spare gives_way);
+      new = λ q alike g e. omega (arith, new.spares, same_worst j (greens_of f) q alike);
+    }))
+    (cases_Bool (leb f.spare old.spare))
 
 -- one after the other
 pub further_then : (j : Site) (first next last : Option Found) (old new all : Greens → Type 0) →
@@ -69,3 +74,16 @@ pub further_good : (j : Site) (first last : Option Found) (tried all : Greens �
     Further j first last tried → ((q : Greens) → good j q ≡ true → all q → tried q) → Further j first last all
 further_good j first last tried all one among =
     record { right = one.right; kept = one.kept; new = λ q t. no_better_if j last q (λ g. one.new q (among q g t)) }
+
+-- with every plan tried, what is found is best
+pub all_tried : (j : Junction) (found : Option Found) (p : Greens) → j.count ≤ 3 → Further (site_of j) None found (Alike 0 p) → AllTried j (Ok found)
+all_tried j None p few tried = (few, λ q. tried.new q (λ k h. absurd (omega arith)))
+all_tried j (Some f) p few tried = (
+  few,
+  record {
+    is_good = tried.right.is_good;
+    all_go = tried.right.all_go;
+    most = λ q g e. omega (arith, tried.new q (λ k h. absurd (omega arith)) g e, tried.right.spares);
+  },
+  tried.right.spares,
+)

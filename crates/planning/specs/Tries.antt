@@ -1,12 +1,12 @@
 -- What trying all plans gives. Assumes nothing: these are definitions.
-use Rattle.std.specs.Prelude.{◌≡◌, ℕ, ◌<◌, ◌≤◌, true, Some, None, Option, ◌≢◌}
+use Rattle.std.specs.Prelude.{◌≡◌, ℕ, ◌<◌, ◌≤◌, true, Some, None, Option, Ok, Err, Result, ◌≢◌}
 use Rattle.greens.specs.Plans.{green_of}
 use Rattle.crossing.specs.declared.junctions.Junction.{Junction}
 use Rattle.crossing.specs.Site.{Site, Greens}
 use Rattle.crossing.specs.Good.{good, enough, worst, Best, NoPlan}
 use Rattle.crossing.specs.Taken.{site_of}
 use Rattle.planning.specs.declared.tries.Found.{Found}
-use Rattle.planning.specs.declared.tries.Tried.{Tried}
+use Rattle.planning.specs.declared.tries.TooMany.{TooMany}
 
 -- the plan that was found
 abbrev pub greens_of : Found → Greens
@@ -40,7 +40,7 @@ pub record Further (j : Site) (before now : Option Found) (tried : Greens → Ty
   pub new : (q : Greens) → tried q → NoBetter j now q
 
 -- what trying all answers: a best plan and what its worst-off stream has to spare, or that no plan lets all go; more than three streams are not tried
-abbrev pub AllTried : Junction → Tried → Type 0
-AllTried j (Tried.Best f) = (j.count ≤ 3) × Best (site_of j) (greens_of f) × (f.spare ≡ worst (site_of j) (greens_of f))
-AllTried j Tried.None = (j.count ≤ 3) × NoPlan (site_of j)
-AllTried j Tried.TooMany = 3 < j.count
+abbrev pub AllTried : Junction → Result (Option Found) TooMany → Type 0
+AllTried j (Ok (Some f)) = (j.count ≤ 3) × Best (site_of j) (greens_of f) × (f.spare ≡ worst (site_of j) (greens_of f))
+AllTried j (Ok None) = (j.count ≤ 3) × NoPlan (site_of j)
+AllTried j (Err _) = 3 < j.count

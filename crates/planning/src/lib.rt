@@ -10,4 +10,4 @@ mod tries;
 pub use entry::{Done, plan};
 pub use finding::best;
 pub use laws::{best_or_none, nine_to_spare, too_much};
-pub use tries::{Found, Tried, try_all};
+pub use tries::{Found, TooMany, try_all};

@@ -16,14 +16,9 @@ pub struct Found {
     pub spare: u8,
 }
 
-#[derive(Clone, Copy)]
-pub enum Tried {
-    Best(Found),
-    // In no plan can all go.
-    None,
-    // More than three streams.
-    TooMany,
-}
+// More than three streams: all their plans are too many to try.
+#[derive(Clone, Copy, Debug, PartialEq, Eq)]
+pub struct TooMany;
 
 // What the worst-off stream has to spare, if the plan is good and all can go.
 fn spared(junction: &Junction, plan: &Plan) -> Option<u8>
@@ -44,21 +39,14 @@ fn better(junction: &Junction, plan: Plan, best: Option<Found>) -> Option<Found>
     let Some(spare) = spared(junction, &plan) else {
         return best;
     };
-    match best {
-        None => Some(Found { plan, spare }),
-        Some(found) => {
-            if found.spare < spare {
-                Some(Found { plan, spare })
-            } else {
-                best
-            }
-        }
-    }
+    best.filter(|found| found.spare >= spare)
+        .or(Some(Found { plan, spare }))
 }
 
 // The better of what was found so far and of all plans with the given greens below `stream`.
 fn try_from(junction: &Junction, plan: Plan, stream: usize, best: Option<Found>) -> Option<Found>
-    requires { (stream ≤ junction.now.count) × (RightSoFar (site_of junction.now) best) }
+    requires stream { stream ≤ junction.now.count }
+    requires right { RightSoFar (site_of junction.now) best }
     ensures { Further (site_of junction.now) best result (Alike stream (green_of plan.greens)) }
 {
     if stream == junction.streams() {
@@ -67,7 +55,7 @@ fn try_from(junction: &Junction, plan: Plan, stream: usize, best: Option<Found>)
     let cycle = junction.cycle().seconds();
     let mut best = best;
     for from in 0..cycle {
-        for long in 0..cycle + 1 {
+        for long in 0..=cycle {
             let mut next = plan;
             next.set(stream, Green { from, long });
             best = try_from(junction, next, stream + 1, best);
@@ -76,15 +64,12 @@ fn try_from(junction: &Junction, plan: Plan, stream: usize, best: Option<Found>)
     best
 }
 
-// A best plan by trying all there are. For small junctions: with three streams there are as many plans as the cycle has seconds, to the sixth power.
-pub fn try_all(junction: &Junction) -> Tried
+// A best plan by trying all there are; none where in no plan all can go. For small junctions: with three streams there are as many plans as the cycle has seconds, to the sixth power.
+pub fn try_all(junction: &Junction) -> Result<Option<Found>, TooMany>
     ensures { AllTried junction.now result }
 {
     if junction.streams() > 3 {
-        return Tried::TooMany;
+        return Err(TooMany);
     }
-    match try_from(junction, Plan::new(), 0, None) {
-        Some(found) => Tried::Best(found),
-        None => Tried::None,
-    }
+    Ok(try_from(junction, Plan::new(), 0, None))
 }
