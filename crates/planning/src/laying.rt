@@ -10,11 +10,12 @@ use placing::Setting;
 
 // Writes a row of the table: what has to be clear after a stream.
 fn write_row(setting: &mut Setting, row: &[u8], a: usize)
-    requires { (length row.now ≤ 12) × (a < 12) }
+    requires row { length row.now ≤ 12 }
+    requires place { a < 12 }
     ensures { RowWritten setting.old setting.new row.now a (length row.now) }
 {
-    for b in 0..row.len() {
-        setting.set_entry(a, b, row[b]);
+    for (b, &number) in row.iter().enumerate() {
+        setting.set_entry(a, b, number);
     }
 }
 
@@ -43,20 +44,15 @@ fn open_windows(setting: &mut Setting, count: usize, anchor: usize, last: u8)
 pub(crate) fn lay(junction: &Junction, anchor: usize) -> Setting
     ensures { Laid (site_of junction.now) anchor (task_of result) }
 {
-    match Setting::new(junction.cycle(), junction.streams()) {
-        Some(new) => {
-            let mut setting = new;
-            write_table(&mut setting, junction);
-            open_windows(
-                &mut setting,
-                junction.streams(),
-                anchor,
-                junction.cycle().seconds() - 1,
-            );
-            setting
-        }
-        None => unreachable(),
-    }
+    let mut setting = Setting::new(junction.cycle(), junction.streams()).unwrap();
+    write_table(&mut setting, junction);
+    open_windows(
+        &mut setting,
+        junction.streams(),
+        anchor,
+        junction.cycle().seconds() - 1,
+    );
+    setting
 }
 
 // The same setting with greens as long as they have to be for so much to spare; none where one would be longer than the cycle.
@@ -79,27 +75,15 @@ pub(crate) fn lengthen(setting: Setting, junction: &Junction, spare: u8) -> Opti
 fn crossed(row: &[u8]) -> usize
     ensures { result ≤ length row.now }
 {
-    let mut count = 0;
-    for number in row {
-        if *number > 0 {
-            count += 1;
-        }
-    }
-    count
+    row.iter().filter(|&&number| number > 0).count()
 }
 
 // The stream that crosses most others: to begin with it leaves the search least to choose.
 pub(crate) fn busiest(junction: &Junction) -> usize
     ensures { result < junction.now.count }
 {
-    let mut busiest = 0;
-    let mut most = 0;
-    for k in 0..junction.streams() {
-        let count = crossed(junction.row(k));
-        if count > most {
-            busiest = k;
-            most = count;
-        }
-    }
-    busiest
+    (0..junction.streams())
+        .rev()
+        .max_by_key(|&stream| crossed(junction.row(stream)))
+        .unwrap_or(0)
 }

@@ -44,7 +44,12 @@ fn better(junction: &Junction, plan: Plan, best: Option<Found>) -> Option<Found>
 }
 
 // The better of what was found so far and of all plans with the given greens below `stream`.
-fn try_from(junction: &Junction, plan: Plan, stream: usize, best: Option<Found>) -> Option<Found>
+fn try_from(
+    junction: &Junction,
+    plan: Plan,
+    stream: usize,
+    mut best: Option<Found>,
+) -> Option<Found>
     requires stream { stream ≤ junction.now.count }
     requires right { RightSoFar (site_of junction.now) best }
     ensures { Further (site_of junction.now) best result (Alike stream (green_of plan.greens)) }
@@ -53,7 +58,6 @@ fn try_from(junction: &Junction, plan: Plan, stream: usize, best: Option<Found>)
         return better(junction, plan, best);
     }
     let cycle = junction.cycle().seconds();
-    let mut best = best;
     for from in 0..cycle {
         for long in 0..=cycle {
             let mut next = plan;

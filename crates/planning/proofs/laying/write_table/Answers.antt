@@ -7,7 +7,7 @@ pub write_row-requires : goal.write_row-requires
 write_row-requires c =
     let few = c.args.junction.now.few.1 in
     let there = row_there c.args.junction.now c.loop-a.a 0 c.row.result.now c.row.ensures (omega arith) in
-    (omega arith, omega arith)
+    record { row = omega arith; place = omega arith }
 
 pub loop-a-preserved : goal.loop-a-preserved
 loop-a-preserved c =
