@@ -1,5 +1,6 @@
 -- A junction laid out for the search of starts. Assumes nothing: these are definitions.
 use Rattle.std.specs.Prelude.{◌≡◌, ℕ, ◌+◌, ◌<◌, ◌≤◌, List, ◌≢◌, slice_index}
+use Rattle.std.specs.Coded.{Coded-set, coded_ℕ, coded_bool, Π_prop, →_prop, ×_prop, le_prop}
 use Rattle.crossing.specs.Site.{Site}
 use Rattle.crossing.specs.Tables.{entry}
 use Rattle.groups.specs.Groups.{asked}
@@ -14,6 +15,17 @@ pub record Laid (j : Site) (anchor : ℕ) (t : Task) : Type 0 where
   pub crossing : (a : ℕ) → a < j.streams → (b : ℕ) → b < j.streams → (t.crosses a b ≡ j.crosses a b) × (t.clear a b ≡ j.clear a b)
   pub low : (k : ℕ) → k < j.streams → t.lowest k ≡ 0
   pub high : (k : ℕ) → k < j.streams → (k ≢ anchor) → j.cycle ≤ t.highest k + 1
+
+-- that can hold in one way only, so a ghost field may state it
+pub Laid-prop : (j : Site) (anchor : ℕ) (t : Task) → IsProp (Laid j anchor t)
+Laid-prop j anchor t one other =
+    λ i. record {
+      counted = Coded-set coded_ℕ t.count j.streams one.counted other.counted i;
+      round = Coded-set coded_ℕ t.cycle j.cycle one.round other.round i;
+      crossing = Π_prop (λ a. →_prop (Π_prop (λ b. →_prop (×_prop (Coded-set coded_bool (t.crosses a b) (j.crosses a b)) (Coded-set coded_ℕ (t.clear a b) (j.clear a b)))))) one.crossing other.crossing i;
+      low = Π_prop (λ k. →_prop (Coded-set coded_ℕ (t.lowest k) 0)) one.low other.low i;
+      high = Π_prop (λ k. →_prop (→_prop le_prop)) one.high other.high i;
+    }
 
 -- its greens are just as long as they have to be for w to spare, and that is no longer than the cycle
 pub record Asked (j : Site) (w : ℕ) (t : Task) : Type 0 where

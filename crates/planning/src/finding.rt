@@ -1,20 +1,18 @@
 // A best plan by search: for so much to spare the lengths are settled and only the starts are looked for, and how much that can be is found by halving.
-ghost use Rattle.std.specs.Prelude.{◌≡◌, ℕ, ◌+◌, ◌<◌, ◌≤◌, Some, None};
+ghost use Rattle.std.specs.Prelude.{◌≡◌, ℕ, ◌+◌, ◌<◌, ◌≤◌, Some};
 ghost use Rattle.greens.specs.Plans.{green_of};
 ghost use Rattle.crossing.specs.Taken.{site_of};
 ghost use Rattle.groups.specs.Groups.{asked};
 ghost use Rattle.placing.specs.Searches.{start_of};
-ghost use Rattle.placing.specs.Settings.{task_of};
 ghost use Rattle.planning.specs.Alike.{Alike};
-ghost use Rattle.planning.specs.Laying.{Laid};
 ghost use Rattle.planning.specs.Lengths.{Leaves, Leaving, Beyond, BestFound, plan_for};
 
-use crate::laying::{busiest, lay, lengthen};
+use crate::laying::Ground;
 use crate::tries::Found;
 use crossing::Junction;
 use greens::{Green, Plan};
 use groups::{asked, most_spare};
-use placing::{Setting, Starts, place};
+use placing::{Starts, place};
 
 // The plan with these starts, its greens as long as they have to be for so much to spare.
 fn plan_from(junction: &Junction, starts: &Starts, spare: u8) -> Plan
@@ -30,33 +28,31 @@ fn plan_from(junction: &Junction, starts: &Starts, spare: u8) -> Plan
     plan
 }
 
-// A plan that leaves every stream so much to spare; none where no plan does.
-fn leaving(junction: &Junction, anchor: usize, ground: &Setting, spare: u8) -> Option<Plan>
-    requires { (anchor < junction.now.count) × (Laid (site_of junction.now) anchor (task_of ground.now)) }
-    ensures { Leaving (site_of junction.now) spare result }
-{
-    let setting = lengthen(*ground, junction, spare)?;
-    let starts = place(&setting)?;
-    Some(plan_from(junction, &starts, spare))
-}
-
-// A best plan from one that leaves so much to spare, where none leaves more than `most`.
-fn widen(junction: &Junction, anchor: usize, ground: &Setting, found: Found, most: u8) -> Found
-    requires laid { (anchor < junction.now.count) × (Laid (site_of junction.now) anchor (task_of ground.now)) }
-    requires found { Leaves (site_of junction.now) found.spare (green_of found.plan.greens) }
-    requires most { Beyond (site_of junction.now) (most + 1) }
-    ensures { BestFound (site_of junction.now) (Some result) }
-{
-    let mut found = found;
-    let mut most = most;
-    while found.spare < most {
-        let spare = most - (most - found.spare) / 2;
-        match leaving(junction, anchor, ground, spare) {
-            Some(plan) => found = Found { plan, spare },
-            None => most = spare - 1,
-        }
+impl<'a> Ground<'a> {
+    // A plan that leaves every stream so much to spare; none where no plan does.
+    fn leaving(&self, spare: u8) -> Option<Plan>
+        ensures { Leaving (site_of self.now.junction.now) spare result }
+    {
+        let setting = self.lengthened(spare)?;
+        let starts = place(&setting)?;
+        Some(plan_from(self.junction, &starts, spare))
     }
-    found
+
+    // A best plan from one that leaves so much to spare, where none leaves more than `most`.
+    fn widen(&self, mut found: Found, mut most: u8) -> Found
+        requires found { Leaves (site_of self.now.junction.now) found.spare (green_of found.plan.greens) }
+        requires most { Beyond (site_of self.now.junction.now) (most + 1) }
+        ensures { BestFound (site_of self.now.junction.now) (Some result) }
+    {
+        while found.spare < most {
+            let spare = most - (most - found.spare) / 2;
+            match self.leaving(spare) {
+                Some(plan) => found = Found { plan, spare },
+                None => most = spare - 1,
+            }
+        }
+        found
+    }
 }
 
 // A best plan and what its worst-off stream has to spare; none where in no plan all can go.
@@ -64,8 +60,7 @@ pub fn best(junction: &Junction) -> Option<Found>
     ensures { BestFound (site_of junction.now) result }
 {
     let most = most_spare(junction)?;
-    let anchor = busiest(junction);
-    let ground = lay(junction, anchor);
-    let plan = leaving(junction, anchor, &ground, 0)?;
-    Some(widen(junction, anchor, &ground, Found { plan, spare: 0 }, most))
+    let ground = Ground::new(junction);
+    let plan = ground.leaving(0)?;
+    Some(ground.widen(Found { plan, spare: 0 }, most))
 }
