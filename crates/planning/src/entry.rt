@@ -22,10 +22,13 @@ pub enum Done {
 fn write_plan(plan: &Plan, room: &mut [u8])
     ensures { (k : ℕ) → 2 * k + 1 < length room.old → plan_in room.new k ≡ green_of plan.now.greens k }
 {
-    for k in 0..room.len() / 2 {
-        let green = plan.green(k);
-        room[2 * k] = green.from;
-        room[2 * k + 1] = green.long;
+    for (place, number) in room.iter_mut().enumerate() {
+        let green = plan.green(place / 2);
+        *number = if place % 2 == 0 {
+            green.from
+        } else {
+            green.long
+        };
     }
 }
 

@@ -1,5 +1,5 @@
 // A junction laid out for the search of starts.
-ghost use Rattle.std.specs.Prelude.{◌≡◌, ◌<◌, ◌≤◌, length, nat_lt, count_by, MatchOption};
+ghost use Rattle.std.specs.Prelude.{◌≡◌, ◌-◌, ◌<◌, ◌≤◌, length, nat_lt, count_by, MatchOption};
 ghost use Rattle.crossing.specs.Taken.{site_of};
 ghost use Rattle.groups.specs.Groups.{asked};
 ghost use Rattle.placing.specs.Settings.{task_of};
@@ -29,12 +29,12 @@ fn write_table(setting: &mut Setting, junction: &Junction)
     }
 }
 
-// Lets each of the first `count` greens but the anchor begin up to a last second.
-fn open_windows(setting: &mut Setting, count: usize, anchor: usize, last: u8)
-    requires { count ≤ 12 }
-    ensures { Opened setting.old setting.new anchor last count }
+// Lets each of the junction's greens but the anchor begin in any second.
+fn open_windows(setting: &mut Setting, junction: &Junction, anchor: usize)
+    ensures { Opened setting.old setting.new anchor (junction.now.cycle.seconds - 1) junction.now.count }
 {
-    for green in 0..count {
+    let last = junction.cycle().seconds() - 1;
+    for green in 0..junction.streams() {
         if green != anchor {
             setting.set_window(green, 0, last);
         }
@@ -83,12 +83,7 @@ impl<'a> Ground<'a> {
         let anchor = busiest(junction);
         let mut setting = Setting::new(junction.cycle(), junction.streams()).unwrap();
         write_table(&mut setting, junction);
-        open_windows(
-            &mut setting,
-            junction.streams(),
-            anchor,
-            junction.cycle().seconds() - 1,
-        );
+        open_windows(&mut setting, junction, anchor);
         Ground {
             junction,
             anchor,

@@ -1,7 +1,10 @@
-use Rattle.std.proofs.Common.{◌≡◌, ℕ, ◌<◌}
+use Rattle.std.proofs.Common.{◌≡◌, ℕ, ◌+◌, ◌*◌, ◌<◌, ◌/◌, ◌%◌, nat_eq, if◌then◌else◌, slice_index}
 use Rattle.greens.specs.Plans.{green_of}
 use Rattle.planning.specs.Entry.{plan_in}
 use Rattle.planning.proofs.entry.write_plan.Given as goal
 
-abbrev pub invariant-loop-k : goal.invariant-loop-k
-invariant-loop-k l = (i : ℕ) → i < l.k → plan_in l.room i ≡ green_of l.plan.greens i
+abbrev pub invariant-loop-place : goal.invariant-loop-place
+invariant-loop-place l = record {
+  from : (k : ℕ) → 2 * k < l.place → slice_index l.room (2 * k) ≡ (green_of l.plan.greens k).from;
+  long : (k : ℕ) → 2 * k + 1 < l.place → slice_index l.room (2 * k + 1) ≡ (green_of l.plan.greens k).long
+}
