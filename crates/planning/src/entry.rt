@@ -2,13 +2,14 @@
 ghost use Rattle.std.specs.Prelude.{◌≡◌, ℕ, ◌+◌, ◌*◌, ◌<◌, length};
 ghost use Rattle.greens.specs.Plans.{green_of};
 ghost use Rattle.crossing.specs.Numbers.{site_in};
-ghost use Rattle.planning.specs.Entry.{Says, entry_refusal, plan_in};
+ghost use Rattle.planning.specs.Entry.{Gives, Says, entry_refusal, plan_in};
 
 use crate::finding::best;
-use crossing::Junction;
+use crossing::{Junction, Refusal};
 use greens::Plan;
 
-#[derive(Clone, Copy)]
+// Callers of the entry get numbers alone, so this is no Result, and a refusal is its number.
+#[derive(Clone, Copy, Debug, PartialEq, Eq)]
 pub enum Done {
     // What the worst-off stream has to spare in the plan that was left in the room.
     Planned(u64),
@@ -32,22 +33,34 @@ fn write_plan(plan: &Plan, room: &mut [u8])
     }
 }
 
-// A best plan for the junction that the numbers give, left in the room, or that there is none, or why they are not taken.
+// A best plan for the junction that the numbers give, left in the room: what its worst-off stream has to spare, none where in no plan all can go, or the first refusal that applies.
+fn planned(
+    cycle: u64,
+    streams: u64,
+    pairs: &[u8],
+    table: &[u8],
+    room: &mut [u8],
+) -> Result<Option<u8>, Refusal>
+    ensures { Gives (entry_refusal cycle streams pairs.now table.now room.old) (site_in cycle streams pairs.now table.now) room.old result room.new }
+{
+    let junction = Junction::read(cycle, streams, pairs, table)?;
+    if let Some(refusal) = junction.refuse_room(room) {
+        return Err(refusal);
+    }
+    let Some(found) = best(&junction) else {
+        return Ok(None);
+    };
+    write_plan(&found.plan, room);
+    Ok(Some(found.spare))
+}
+
+// The same in numbers alone, as the entry gives it to its callers.
 pub fn plan(cycle: u64, streams: u64, pairs: &[u8], table: &[u8], room: &mut [u8]) -> Done
     ensures { Says (entry_refusal cycle streams pairs.now table.now room.old) (site_in cycle streams pairs.now table.now) room.old result room.new }
 {
-    let junction = match Junction::read(cycle, streams, pairs, table) {
-        Ok(junction) => junction,
-        Err(refusal) => return Done::Refused(refusal.number()),
-    };
-    if let Some(refusal) = junction.refuse_room(room) {
-        return Done::Refused(refusal.number());
-    }
-    match best(&junction) {
-        Some(found) => {
-            write_plan(&found.plan, room);
-            Done::Planned(found.spare as u64)
-        }
-        None => Done::None,
+    match planned(cycle, streams, pairs, table, room) {
+        Ok(Some(spare)) => Done::Planned(spare as u64),
+        Ok(None) => Done::None,
+        Err(refusal) => Done::Refused(refusal.number()),
     }
 }
