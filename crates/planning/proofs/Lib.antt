@@ -2,7 +2,6 @@ pub mod Bad
 pub mod Choose
 pub mod Exist
 pub mod First
-pub mod Grounds
 pub mod Leave
 pub mod Progress
 pub mod Reach

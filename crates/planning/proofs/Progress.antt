@@ -1,12 +1,12 @@
 -- One plan more tried: what was found stays, or gives way to the new plan.
-use Rattle.std.proofs.Common.{◌≡◌, ℕ, ◌≤◌, Bool, true, false, leb, ◌⊎◌, Some, None, Ok, Option, ⊎_elim, arith}
+use Rattle.std.proofs.Common.{◌≡◌, ℕ, ◌≤◌, true, false, leb, ◌⊎◌, Some, None, Ok, Option, ⊎_elim, arith}
 use Rattle.std.proofs.lemmas.Bool.{cases_Bool, leb-true, leb-false}
 use Rattle.std.specs.Option.{option_and_then, option_or}
 use Rattle.std.specs.Bool.{then_some}
 use Rattle.crossing.specs.declared.junctions.Junction.{Junction}
 use Rattle.crossing.specs.Taken.{site_of}
 use Rattle.crossing.specs.Site.{Site, Greens}
-use Rattle.crossing.specs.Good.{good, enough, worst}
+use Rattle.crossing.specs.Good.{good, enough}
 use Rattle.planning.specs.declared.tries.Found.{Found}
 use Rattle.planning.specs.Alike.{Alike}
 use Rattle.planning.specs.Tries.{greens_of, Right, RightSoFar, NoBetter, Further, AllTried}

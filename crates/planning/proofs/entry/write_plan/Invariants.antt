@@ -1,6 +1,5 @@
-use Rattle.std.proofs.Common.{◌≡◌, ℕ, ◌+◌, ◌*◌, ◌<◌, ◌/◌, ◌%◌, nat_eq, if◌then◌else◌, slice_index}
+use Rattle.std.proofs.Common.{◌≡◌, ℕ, ◌+◌, ◌*◌, ◌<◌, slice_index}
 use Rattle.greens.specs.Plans.{green_of}
-use Rattle.planning.specs.Entry.{plan_in}
 use Rattle.planning.proofs.entry.write_plan.Given as goal
 
 abbrev pub invariant-loop-place : goal.invariant-loop-place

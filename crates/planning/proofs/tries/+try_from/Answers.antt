@@ -5,12 +5,6 @@ use Rattle.planning.proofs.Turns.{shorter_more, begun_more, begun_all}
 use Rattle.planning.proofs.tries.+try_from.Goals as goal
 use Rattle.planning.proofs.tries.+try_from.Goals.{else-loop-long-test, then-loop-long-test+else-long-cycle}
 
-pub loop-long-preserved : goal.loop-long-preserved
-loop-long-preserved t c =
-    let room : c.args.stream < length c.args.plan.greens = omega (arith, c.args.plan.twelve) in
-    shorter_more (site_of c.args.junction.now) c.args.plan.greens c.args.stream c.loop-from.best c.loop-long.best c.try_from-best.result
-    c.loop-from.from c.loop-long.long c.set.new.self.greens room c.set.ensures c.loop-long.invariant c.try_from-best.ensures
-
 pub loop-from-preserved : goal.loop-from-preserved
 loop-from-preserved t c =
     let seconds = ap (λ (cycle : Cycle). cycle.seconds) c.cycle.ensures in
