@@ -1,4 +1,4 @@
--- A junction laid out for the search of starts. Assumes nothing: these are definitions.
+-- A junction laid out for the search of starts. Assumes nothing: these are definitions, and the proof that a ghost field needs.
 use Rattle.std.specs.Prelude.{◌≡◌, ℕ, ◌+◌, ◌<◌, ◌≤◌, List, ◌≢◌, slice_index}
 use Rattle.std.specs.Coded.{Coded-set, coded_ℕ, coded_bool, Π_prop, →_prop, ×_prop, le_prop}
 use Rattle.crossing.specs.Site.{Site}

@@ -59,7 +59,7 @@ pub fn plan(cycle: u64, streams: u64, pairs: &[u8], table: &[u8], room: &mut [u8
     ensures { Says (entry_refusal cycle streams pairs.now table.now room.old) (site_in cycle streams pairs.now table.now) room.old result room.new }
 {
     match planned(cycle, streams, pairs, table, room) {
-        Ok(Some(spare)) => Done::Planned(spare as u64),
+        Ok(Some(spare)) => Done::Planned(u64::from(spare)),
         Ok(None) => Done::None,
         Err(refusal) => Done::Refused(refusal.number()),
     }

@@ -28,7 +28,7 @@ fn plan_from(junction: &Junction, starts: &Starts, spare: u8) -> Plan
     plan
 }
 
-impl<'a> Ground<'a> {
+impl Ground<'_> {
     // A plan that leaves every stream so much to spare; none where no plan does.
     fn leaving(&self, spare: u8) -> Option<Plan>
         ensures { Leaving (site_of self.now.junction.now) spare result }

@@ -55,7 +55,7 @@ fn busiest(junction: &Junction) -> usize
     (0..junction.streams())
         .rev()
         .max_by_key(|&stream| crossed(junction.row(stream)))
-        .unwrap_or(0)
+        .unwrap()
 }
 
 // How long a stream's green has to be for so much to spare; none where that is longer than the cycle.

@@ -58,6 +58,7 @@ fn try_from(
         return better(junction, plan, best);
     }
     let cycle = junction.cycle().seconds();
+    // Loops and no folds: a closure that comes back to this function would need a contract of its own.
     for from in 0..cycle {
         for long in 0..=cycle {
             let mut next = plan;
