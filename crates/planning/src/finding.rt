@@ -20,10 +20,11 @@ fn plan_from(junction: &Junction, starts: &Starts, spare: u8) -> Plan
     ensures { Alike junction.now.count (plan_for (site_of junction.now) spare (start_of starts.now)) (green_of result.greens) }
 {
     let mut plan = Plan::new();
-    for k in 0..junction.streams() {
-        let from = starts.start(k);
-        let long = asked(junction, spare, k) as u8;
-        plan.set(k, Green { from, long });
+    // A loop: a fold would only hand the same plan through its closure.
+    for stream in 0..junction.streams() {
+        let from = starts.start(stream);
+        let long = asked(junction, spare, stream) as u8;
+        plan.set(stream, Green { from, long });
     }
     plan
 }
