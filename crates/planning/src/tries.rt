@@ -5,11 +5,11 @@ ghost use Rattle.crossing.specs.Taken.{site_of};
 ghost use Rattle.planning.specs.Alike.{Alike};
 ghost use Rattle.planning.specs.Tries.{Spared, RightSoFar, Further, AllTried};
 
-use crossing::{Junction, Verdict};
+use crossing::Junction;
 use greens::{Green, Plan};
 
 // A good plan in which all can go.
-#[derive(Clone, Copy)]
+#[derive(Clone, Copy, Debug, PartialEq, Eq)]
 pub struct Found {
     pub plan: Plan,
     // What its worst-off stream has to spare.
@@ -24,11 +24,8 @@ pub struct TooMany;
 fn spared(junction: &Junction, plan: &Plan) -> Option<u8>
     ensures { Spared (site_of junction.now) (green_of plan.now.greens) result }
 {
-    match junction.judge(plan) {
-        Verdict::Good { spare, all_go } => { if all_go { Some(spare) } else { None } }
-        Verdict::Unfit { .. } => None,
-        Verdict::TooClose { .. } => None,
-    }
+    let worth = junction.judge(plan).ok()?;
+    worth.all_go.then_some(worth.spare)
 }
 
 // The better of what was found so far and of one plan more.
