@@ -44,9 +44,7 @@ fn planned(
     ensures { Gives (entry_refusal cycle streams pairs.now table.now room.old) (site_in cycle streams pairs.now table.now) room.old result room.new }
 {
     let junction = Junction::read(cycle, streams, pairs, table)?;
-    if let Some(refusal) = junction.refuse_room(room) {
-        return Err(refusal);
-    }
+    junction.check_room(room)?;
     let Some(found) = best(&junction) else {
         return Ok(None);
     };

@@ -9,9 +9,9 @@ use Rattle.planning.proofs.entry.planned.Goals as goal
 
 pub returns : goal.returns
 returns c =
-    let room = room_taken c.in_ok-junction.junction.count c.args.room.now (sym c.in_default.ensures) in
+    let room = room_taken c.in_ok-junction.junction.count c.args.room.now (search rules) in
     let found = same_found (site_of c.in_ok-junction.junction) (site_in c.args.cycle c.args.streams c.args.pairs.now c.args.table.now)
-    (green_of c.in-Some-best.found.plan.greens) (plan_in c.write_plan.new.room) c.in-Some-best.found.spare c.in_ok-junction.ensures.1
-    (λ k h. sym (c.write_plan.ensures k (omega (arith, room)))) c.in-Some-best.ensures.0 c.in-Some-best.ensures.1
+    (green_of c.in-Some.found.plan.greens) (plan_in c.write_plan.new.room) c.in-Some.found.spare c.in_ok-junction.ensures.1
+    (λ k h. sym (c.write_plan.ensures k (omega (arith, room)))) c.in-Some.ensures.0 c.in-Some.ensures.1
     in
     (search rules, search rules, found.0, found.1)
