@@ -9,23 +9,14 @@ use crossing::Junction;
 use groups::asked;
 use placing::Setting;
 
-// Writes a row of the table: what has to be clear after a stream.
-fn write_row(setting: &mut Setting, row: &[u8], a: usize)
-    requires row { length row.now ≤ 12 }
-    requires place { a < 12 }
-    ensures { RowWritten setting.old setting.new row.now a (length row.now) }
-{
-    for (b, &number) in row.iter().enumerate() {
-        setting.set_entry(a, b, number);
-    }
-}
-
-// Writes the junction's table.
+// Writes the junction's table: row by row, what has to be clear after a stream.
 fn write_table(setting: &mut Setting, junction: &Junction)
     ensures { RowsWritten setting.old setting.new junction.now.count junction.now.table junction.now.count }
 {
-    for a in 0..junction.streams() {
-        write_row(setting, junction.row(a), a);
+    for first in 0..junction.streams() {
+        for (next, &number) in junction.row(first).iter().enumerate() {
+            setting.set_entry(first, next, number);
+        }
     }
 }
 
