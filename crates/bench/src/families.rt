@@ -4,7 +4,7 @@ use crate::rounds::time;
 use std::alloc::AllocError;
 
 // What a family's junctions are answered, as a checksum.
-#[derive(Clone, Copy)]
+#[derive(Clone, Copy, Default)]
 struct Sums {
     right: u32,
     none: u32,
@@ -24,14 +24,10 @@ impl Sums {
 }
 
 fn show_times(rt: &HostRuntime, name: &str, times: &[u64], marks: u64) -> anyhow::Result<()> {
-    let count = times.len();
-    let mut total: u64 = 0;
-    for nanos in times {
-        total = total.saturating_add(*nanos);
-    }
-    if count > 0 {
-        let median = times[count / 2];
-        let worst = times[count - 1];
+    let total = times
+        .iter()
+        .fold(0, |sum: u64, nanos| sum.saturating_add(*nanos));
+    if let (Some(median), Some(worst)) = (times.get(times.len() / 2), times.last()) {
         eprintln!(rt;
             "{name}: median {median} ns, worst {worst} ns, total {total} ns, plans {marks}"
         )?;
@@ -41,21 +37,17 @@ fn show_times(rt: &HostRuntime, name: &str, times: &[u64], marks: u64) -> anyhow
 
 pub(crate) fn run(rt: &HostRuntime, name: &str, rounds: u32) -> anyhow::Result<()> {
     let family = read(rt, name)?;
-    let mut sums = Sums {
-        right: 0,
-        none: 0,
-        spare: 0,
-    };
+    let mut sums = Sums::default();
     let mut times = Vec::new(rt.alloc());
     let mut marks: u64 = 0;
-    for (junction, known) in family.junctions.iter().zip(family.answers.iter()) {
-        let timed = time(rt, junction, rounds)?;
-        sums.add(timed.spare, *known);
+    for known in &family {
+        let timed = time(rt, &known.junction, rounds)?;
+        sums.add(timed.spare, known.spare);
         marks = marks.wrapping_add(timed.mark);
         times.push(timed.nanos)?;
     }
     times.sort_unstable();
-    let count = family.junctions.len();
+    let count = family.len();
     let Sums { right, none, spare } = sums;
     println!(rt;
         "{name}: {count} junctions, {right} right, {none} without a plan, {spare} to spare in all"

@@ -8,46 +8,41 @@ use texts::Reader;
 // More junctions than any family has.
 const MANY: u32 = 100_000;
 
-#[derive(Drop)]
-pub struct Family {
-    pub junctions: Vec<Junction>,
+#[derive(Clone, Copy)]
+pub struct Known {
+    pub junction: Junction,
     // What the worst-off stream has to spare at best, or none.
-    pub answers: Vec<Option<u8>>,
+    pub spare: Option<u8>,
 }
 
-fn junctions_in(heap: Global, text: &str) -> anyhow::Result<Vec<Junction>> {
-    let mut junctions = Vec::new(heap);
+// What a word of the answers says.
+fn spare_in(word: &str) -> anyhow::Result<Option<u8>> {
+    if word == "none" {
+        return Ok(None);
+    }
+    Ok(Some(word.parse()?))
+}
+
+fn pair_up(heap: Global, text: &str, answers: &str) -> anyhow::Result<Vec<Known>> {
+    let mut family = Vec::new(heap);
     let mut reader = Reader::new(text.as_bytes());
+    let mut words = answers.split_whitespace();
     for _ in 0..MANY {
-        let Some(section) = reader.next(heap)? else {
+        let (Some(section), Some(word)) = (reader.next(heap)?, words.next()) else {
             break;
         };
-        match section.junction(heap)? {
-            Ok(junction) => junctions.push(junction)?,
-            Err(_) => return Err(anyhow!("a junction is refused")),
-        }
+        let Ok(junction) = section.junction(heap)? else {
+            return Err(anyhow!("a junction is refused"));
+        };
+        let spare = spare_in(word)?;
+        family.push(Known { junction, spare })?;
     }
-    Ok(junctions)
+    Ok(family)
 }
 
-fn answers_in(heap: Global, text: &str) -> anyhow::Result<Vec<Option<u8>>> {
-    let mut answers = Vec::new(heap);
-    for word in text.split_whitespace() {
-        if word == "none" {
-            answers.push(None)?;
-        } else {
-            answers.push(Some(word.parse::<u8>()?))?;
-        }
-    }
-    Ok(answers)
-}
-
-pub(crate) fn read(rt: &HostRuntime, name: &str) -> anyhow::Result<Family> {
+pub(crate) fn read(rt: &HostRuntime, name: &str) -> anyhow::Result<Vec<Known>> {
     let heap = rt.alloc();
     let text = fs::read_to_string(rt, format!(in heap; "{name}.txt")?)?;
-    let known = fs::read_to_string(rt, format!(in heap; "{name}.answers")?)?;
-    Ok(Family {
-        junctions: junctions_in(heap, text.as_str())?,
-        answers: answers_in(heap, known.as_str())?,
-    })
+    let answers = fs::read_to_string(rt, format!(in heap; "{name}.answers")?)?;
+    pair_up(heap, text.as_str(), answers.as_str())
 }

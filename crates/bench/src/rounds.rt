@@ -14,13 +14,14 @@ pub struct Timed {
 }
 
 fn mark(plan: &Plan) -> u64 {
-    let mut mark: u64 = 0;
-    for k in 0..12 {
-        let green = plan.green(k);
-        mark = mark.wrapping_mul(121).wrapping_add(green.from as u64);
-        mark = mark.wrapping_mul(121).wrapping_add(green.long as u64);
-    }
-    mark
+    (0..12)
+        .map(|stream| plan.green(stream))
+        .fold(0, |mark: u64, green| {
+            mark.wrapping_mul(121)
+                .wrapping_add(u64::from(green.from))
+                .wrapping_mul(121)
+                .wrapping_add(u64::from(green.long))
+        })
 }
 
 fn time_once(rt: &HostRuntime, junction: &Junction) -> anyhow::Result<Timed> {
@@ -28,18 +29,11 @@ fn time_once(rt: &HostRuntime, junction: &Junction) -> anyhow::Result<Timed> {
     let found = best(junction);
     let took = start.elapsed(rt)?.as_nanos();
     let nanos = took.min(1_000_000_000_000) as u64;
-    match found {
-        Some(found) => Ok(Timed {
-            spare: Some(found.spare),
-            mark: mark(&found.plan),
-            nanos,
-        }),
-        None => Ok(Timed {
-            spare: None,
-            mark: 0,
-            nanos,
-        }),
-    }
+    Ok(Timed {
+        spare: found.map(|found| found.spare),
+        mark: found.map_or(0, |found| mark(&found.plan)),
+        nanos,
+    })
 }
 
 // The shortest of so many rounds; at least one is run.

@@ -1,68 +1,82 @@
 // What is answered for a junction, held against its plan.
 use crossing::{Junction, Verdict};
 use greens::{Green, Plan};
-use planning::{Done, Tried, best, plan, try_all};
+use planning::{Done, Found, Tried, best, plan, try_all};
 use std::fmt;
 
-#[derive(Clone, Copy, PartialEq, Eq)]
-pub enum Answer {
-    // A plan, judged good, in which all can go and the worst-off stream has just so much to spare.
-    Spare(u8),
-    None,
+// Why there is no answer that could be compared.
+#[derive(Clone, Copy, Debug, PartialEq, Eq)]
+pub enum Trouble {
     // A plan that is not what was said of it.
     Wrong,
     TooMany,
     Refused(u64),
 }
 
-impl fmt::Display for Answer {
+impl fmt::Display for Trouble {
     fn fmt<W: fmt::Write>(&self, f: &mut fmt::Formatter<W>) -> fmt::Result {
         match *self {
-            Answer::Spare(spare) => write!(f, "{spare} to spare"),
-            Answer::None => write!(f, "none"),
-            Answer::Wrong => write!(f, "wrong"),
-            Answer::TooMany => write!(f, "too many"),
-            Answer::Refused(number) => write!(f, "refused by {number}"),
+            Trouble::Wrong => write!(f, "wrong"),
+            Trouble::TooMany => write!(f, "too many"),
+            Trouble::Refused(number) => write!(f, "refused by {number}"),
         }
     }
 }
 
+// What the worst-off stream has to spare in a plan that was judged good and in which all can go; none where there is no such plan.
+pub type Answer = Result<Option<u8>, Trouble>;
+
+// An answer as it is printed.
+#[derive(Clone, Copy)]
+pub struct Shown(pub Answer);
+
+impl fmt::Display for Shown {
+    fn fmt<W: fmt::Write>(&self, f: &mut fmt::Formatter<W>) -> fmt::Result {
+        match self.0 {
+            Ok(Some(spare)) => write!(f, "{spare} to spare"),
+            Ok(None) => write!(f, "none"),
+            Err(trouble) => write!(f, "{trouble}"),
+        }
+    }
+}
+
+// What is to spare in a plan, if that is what was said of it.
 fn judged(junction: &Junction, plan: &Plan, said: u64) -> Answer {
     match junction.judge(plan) {
-        Verdict::Good { spare, all_go } => {
-            if all_go && spare as u64 == said {
-                Answer::Spare(spare)
-            } else {
-                Answer::Wrong
-            }
-        }
-        Verdict::Unfit { .. } => Answer::Wrong,
-        Verdict::TooClose { .. } => Answer::Wrong,
+        Verdict::Good {
+            spare,
+            all_go: true,
+        } if u64::from(spare) == said => Ok(Some(spare)),
+        _ => Err(Trouble::Wrong),
     }
+}
+
+fn judged_if_found(junction: &Junction, found: Option<Found>) -> Answer {
+    let Some(found) = found else {
+        return Ok(None);
+    };
+    judged(junction, &found.plan, u64::from(found.spare))
 }
 
 pub(crate) fn by_search(junction: &Junction) -> Answer {
-    match best(junction) {
-        Some(found) => judged(junction, &found.plan, found.spare as u64),
-        None => Answer::None,
-    }
+    judged_if_found(junction, best(junction))
 }
 
 pub(crate) fn by_trying(junction: &Junction) -> Answer {
     match try_all(junction) {
-        Tried::Best(found) => judged(junction, &found.plan, found.spare as u64),
-        Tried::None => Answer::None,
-        Tried::TooMany => Answer::TooMany,
+        Tried::Best(found) => judged_if_found(junction, Some(found)),
+        Tried::None => judged_if_found(junction, None),
+        Tried::TooMany => Err(Trouble::TooMany),
     }
 }
 
 // The plan that a room holds.
 fn plan_in(room: &[u8]) -> Plan {
     let mut plan = Plan::new();
-    for k in 0..room.len() / 2 {
-        let from = room[2 * k];
-        let long = room[2 * k + 1];
-        plan.set(k, Green { from, long });
+    for (stream, numbers) in room.chunks_exact(2).enumerate() {
+        if let [from, long] = *numbers {
+            plan.set(stream, Green { from, long });
+        }
     }
     plan
 }
@@ -77,7 +91,7 @@ pub(crate) fn by_entry(
 ) -> Answer {
     match plan(cycle, junction.streams() as u64, pairs, table, room) {
         Done::Planned(spare) => judged(junction, &plan_in(room), spare),
-        Done::None => Answer::None,
-        Done::Refused(number) => Answer::Refused(number),
+        Done::None => Ok(None),
+        Done::Refused(number) => Err(Trouble::Refused(number)),
     }
 }

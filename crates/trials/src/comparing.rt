@@ -1,5 +1,5 @@
 // The search held against all plans tried, on random junctions.
-use crate::answers::{Answer, by_search, by_trying};
+use crate::answers::{Answer, Trouble, by_search, by_trying};
 use crate::random::{Dice, Numbers, junction};
 use crossing::Junction;
 
@@ -9,21 +9,20 @@ const SEED: u64 = 1;
 fn agreed(numbers: &Numbers) -> Answer {
     let pairs = numbers.pairs.as_slice();
     let table = numbers.table.as_slice();
-    match Junction::read(numbers.cycle as u64, numbers.streams as u64, pairs, table) {
-        Err(_) => Answer::Wrong,
-        Ok(junction) => {
-            let search = by_search(&junction);
-            if search == by_trying(&junction) {
-                search
-            } else {
-                Answer::Wrong
-            }
-        }
+    let (cycle, streams) = (u64::from(numbers.cycle), u64::from(numbers.streams));
+    let Ok(junction) = Junction::read(cycle, streams, pairs, table) else {
+        return Err(Trouble::Wrong);
+    };
+    let search = by_search(&junction);
+    if search == by_trying(&junction) {
+        search
+    } else {
+        Err(Trouble::Wrong)
     }
 }
 
 // How many junctions there were of each kind.
-#[derive(Clone, Copy)]
+#[derive(Clone, Copy, Default)]
 struct Counts {
     none: u32,
     planned: u32,
@@ -34,26 +33,15 @@ struct Counts {
 }
 
 fn more(count: u32, one: bool) -> u32 {
-    if one { count.saturating_add(1) } else { count }
+    count.saturating_add(u32::from(one))
 }
 
 impl Counts {
-    fn new() -> Counts {
-        Counts {
-            none: 0,
-            planned: 0,
-            differ: 0,
-            empty: 0,
-            whole: 0,
-            long: 0,
-        }
-    }
-
     fn add_answer(&mut self, answer: Answer) {
         match answer {
-            Answer::None => self.none = more(self.none, true),
-            Answer::Spare(_) => self.planned = more(self.planned, true),
-            _ => self.differ = more(self.differ, true),
+            Ok(None) => self.none = more(self.none, true),
+            Ok(Some(_)) => self.planned = more(self.planned, true),
+            Err(_) => self.differ = more(self.differ, true),
         }
     }
 
@@ -82,13 +70,13 @@ impl Counts {
 
 pub(crate) fn compare_many(rt: &HostRuntime, count: u32) -> anyhow::Result<()> {
     let mut dice = Dice::new(SEED);
-    let mut counts = Counts::new();
+    let mut counts = Counts::default();
     for _ in 0..count {
         let numbers = junction(rt.alloc(), &mut dice)?;
         let answer = agreed(&numbers);
         counts.add_answer(answer);
         counts.add_kind(&numbers);
-        if answer == Answer::Wrong {
+        if answer == Err(Trouble::Wrong) {
             show(rt, &numbers)?;
         }
     }

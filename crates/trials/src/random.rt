@@ -38,13 +38,8 @@ pub struct Numbers {
 impl Numbers {
     // Whether a stream asks for no green.
     pub(crate) fn has_empty(&self) -> bool {
-        let pairs = self.pairs.as_slice();
-        for k in 0..pairs.len() / 2 {
-            if pairs[2 * k] == 0 && pairs[2 * k + 1] == 0 {
-                return true;
-            }
-        }
-        false
+        let mut streams = self.pairs.as_slice().chunks_exact(2);
+        streams.any(|numbers| numbers == [0, 0].as_slice())
     }
 
     // Whether a stream asks for the whole cycle.
@@ -54,12 +49,7 @@ impl Numbers {
 
     // Whether what has to be clear between two reaches round the cycle.
     pub(crate) fn has_long_clearing(&self) -> bool {
-        for number in self.table.as_slice() {
-            if *number > self.cycle {
-                return true;
-            }
-        }
-        false
+        self.table.iter().any(|&number| number > self.cycle)
     }
 }
 
@@ -85,7 +75,8 @@ pub(crate) fn junction(heap: Global, dice: &mut Dice) -> Result<Numbers, AllocEr
 
 // The table, row by row.
 fn crossings(heap: Global, dice: &mut Dice, streams: u8, cycle: u8) -> Result<Vec<u8>, AllocError>
-    requires { (streams ≤ 3) × (cycle ≤ 8) }
+    requires few { streams ≤ 3 }
+    requires short { cycle ≤ 8 }
 {
     // Any two of three streams have a sum of their own: 1, 2 or 3.
     let crosses = [false, dice.roll(3) > 0, dice.roll(3) > 0, dice.roll(3) > 0];

@@ -1,5 +1,5 @@
 // Worked junctions: by the search, by the entry with its room judged, and by all plans tried.
-use crate::answers::{by_entry, by_search, by_trying};
+use crate::answers::{Shown, by_entry, by_search, by_trying};
 use crossing::Junction;
 
 pub(crate) fn show_all(rt: &HostRuntime) -> anyhow::Result<()> {
@@ -50,9 +50,9 @@ fn show(
         return Ok(());
     };
     let mut room = vec![in rt.alloc(); 0; pairs.len()]?;
-    let entry = by_entry(&junction, cycle, pairs, table, room.as_mut_slice());
-    let search = by_search(&junction);
-    let tried = by_trying(&junction);
+    let entry = Shown(by_entry(&junction, cycle, pairs, table, room.as_mut_slice()));
+    let search = Shown(by_search(&junction));
+    let tried = Shown(by_trying(&junction));
     println!(rt; "{name}: search {search}, entry {entry}, all plans tried {tried}")?;
     Ok(())
 }
