@@ -1,25 +1,15 @@
 // Two greens that keep apart or don't.
+use crate::figures::{cycle, green};
 use crossing::{apart, too_close};
-use greens::{Cycle, Green};
 use std::test::Fail;
 
 // Whether the second green, from a second on and so long, keeps apart from the first in a cycle of 12.
-fn keeps_apart(clear: u8, first: (u8, u8), next: (u8, u8)) -> bool {
-    match Cycle::new(12) {
-        Some(cycle) => apart(cycle, clear, green(first), green(next)),
-        None => false,
-    }
-}
-
-fn green(numbers: (u8, u8)) -> Green {
-    Green {
-        from: numbers.0,
-        long: numbers.1,
-    }
+fn keeps_apart(clear: u8, first: (u8, u8), next: (u8, u8)) -> Result<bool, Fail> {
+    Ok(apart(cycle(12)?, clear, green(first), green(next)))
 }
 
 #[test]
-fn seconds_to_clear(rt: HostRuntime) {
+fn seconds_to_clear(rt: HostRuntime) -> Result<(), Fail> {
     for (clear, first, next, apart) in [
         (2, (0, 3), (5, 2), true),
         (2, (0, 3), (4, 2), false),
@@ -35,12 +25,13 @@ fn seconds_to_clear(rt: HostRuntime) {
         (11, (0, 1), (11, 1), false),
         (120, (0, 1), (11, 1), false),
     ] {
-        assert_eq!(rt; keeps_apart(clear, first, next), apart);
+        assert_eq!(rt; keeps_apart(clear, first, next)?, apart);
     }
+    Ok(())
 }
 
 #[test]
-fn empty_and_whole(rt: HostRuntime) {
+fn empty_and_whole(rt: HostRuntime) -> Result<(), Fail> {
     for (clear, first, next, apart) in [
         (120, (3, 0), (0, 12), true),
         (120, (0, 12), (3, 0), true),
@@ -48,19 +39,18 @@ fn empty_and_whole(rt: HostRuntime) {
         (0, (5, 12), (4, 1), false),
         (0, (0, 11), (11, 1), true),
     ] {
-        assert_eq!(rt; keeps_apart(clear, first, next), apart);
+        assert_eq!(rt; keeps_apart(clear, first, next)?, apart);
     }
+    Ok(())
 }
 
 #[test]
 fn in_which_second(rt: HostRuntime) -> Result<(), Fail> {
-    let Some(cycle) = Cycle::new(12) else {
-        return Err(Fail::new("no cycle"));
-    };
+    let twelve = cycle(12)?;
     let first = green((10, 3));
     let next = green((0, 4));
     for (second, close) in [(11, false), (0, true), (2, true), (3, false), (4, false)] {
-        assert_eq!(rt; too_close(cycle, 2, first, next, second), close);
+        assert_eq!(rt; too_close(twelve, 2, first, next, second), close);
     }
     Ok(())
 }

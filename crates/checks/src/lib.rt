@@ -4,6 +4,8 @@
 #[cfg(test)]
 mod apartness;
 #[cfg(test)]
+mod figures;
+#[cfg(test)]
 mod lights;
 #[cfg(test)]
 mod refusals;

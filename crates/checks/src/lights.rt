@@ -1,23 +1,13 @@
 // Seconds that go round, and the seconds in which a green is on.
+use crate::figures::cycle;
 use greens::{Cycle, Green, Plan};
 use std::test::Fail;
-
-fn cycle(seconds: u64) -> Result<Cycle, Fail> {
-    match Cycle::new(seconds) {
-        Some(cycle) => Ok(cycle),
-        None => Err(Fail::new("no cycle")),
-    }
-}
 
 // Whether a green is on in just these seconds.
 fn on_in(cycle: Cycle, from: u8, long: u8, seconds: &[u8]) -> bool {
     let green = Green { from, long };
-    for second in 0..cycle.seconds() {
-        if green.on(cycle, second) != seconds.contains(&second) {
-            return false;
-        }
-    }
-    green.seconds(cycle) as usize == seconds.len()
+    (0..cycle.seconds()).all(|second| green.on(cycle, second) == seconds.contains(&second))
+        && usize::from(green.seconds(cycle)) == seconds.len()
 }
 
 #[test]

@@ -4,20 +4,13 @@ use placing::{Setting, place};
 
 // When a green of 7 seconds begins, on a cycle that it shares with one of 8 seconds that begins in second 0, with 2 seconds to clear after each.
 fn start_beside(cycle: u64) -> Option<u8> {
-    let Some(cycle) = Cycle::new(cycle) else {
-        return None;
-    };
-    let Some(mut setting) = Setting::new(cycle, 2) else {
-        return None;
-    };
+    let mut setting = Setting::new(Cycle::new(cycle)?, 2)?;
     setting.set_long(0, 8);
     setting.set_long(1, 7);
     setting.set_window(1, 0, 119);
     setting.set_entry(0, 1, 3);
     setting.set_entry(1, 0, 3);
-    let Some(starts) = place(&setting) else {
-        return None;
-    };
+    let starts = place(&setting)?;
     Some(starts.start(1))
 }
 
