@@ -4,7 +4,7 @@ use crate::rounds::time;
 use std::alloc::AllocError;
 
 // What a family's junctions are answered, as a checksum.
-#[derive(Clone, Copy, Default)]
+#[derive(Clone, Copy, Debug, Default, PartialEq, Eq)]
 struct Sums {
     right: u32,
     none: u32,

@@ -9,18 +9,14 @@ use std::env;
 
 const FAMILIES: [&str; 7] = ["tiny", "small", "town", "twelve", "dense", "odd", "equal"];
 
-fn main(rt: HostRuntime) -> anyhow::Result<()> {
-    run(&rt)
-}
-
 // Its argument is how many rounds to run: of each junction's times the shortest is taken.
-fn run(rt: &HostRuntime) -> anyhow::Result<()> {
-    let rounds = match env::args(rt)?.nth(1) {
+fn main(rt: HostRuntime) -> anyhow::Result<()> {
+    let rounds = match env::args(&rt)?.nth(1) {
         Some(word) => word.as_str().parse::<u32>()?,
         None => 1,
     };
     for name in FAMILIES {
-        families::run(rt, name, rounds)?;
+        families::run(&rt, name, rounds)?;
     }
     Ok(())
 }

@@ -5,7 +5,7 @@ use planning::best;
 use std::time::Instant;
 
 // What was found for a junction, and in how many nanoseconds.
-#[derive(Clone, Copy)]
+#[derive(Clone, Copy, Debug, PartialEq, Eq)]
 pub struct Timed {
     pub spare: Option<u8>,
     // A figure by which plans that differ are told apart.

@@ -27,7 +27,7 @@ impl fmt::Display for Trouble {
 pub type Answer = Result<Option<u8>, Trouble>;
 
 // An answer as it is printed.
-#[derive(Clone, Copy)]
+#[derive(Clone, Copy, Debug, PartialEq, Eq)]
 pub struct Shown(pub Answer);
 
 impl fmt::Display for Shown {

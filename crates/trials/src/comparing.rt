@@ -22,7 +22,7 @@ fn agreed(numbers: &Numbers) -> Answer {
 }
 
 // How many junctions there were of each kind.
-#[derive(Clone, Copy, Default)]
+#[derive(Clone, Copy, Debug, Default, PartialEq, Eq)]
 struct Counts {
     none: u32,
     planned: u32,

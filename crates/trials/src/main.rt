@@ -9,10 +9,6 @@ mod worked;
 const RANDOM: u32 = 300;
 
 fn main(rt: HostRuntime) -> anyhow::Result<()> {
-    run(&rt)
-}
-
-fn run(rt: &HostRuntime) -> anyhow::Result<()> {
-    worked::show_all(rt)?;
-    comparing::compare_many(rt, RANDOM)
+    worked::show_all(&rt)?;
+    comparing::compare_many(&rt, RANDOM)
 }

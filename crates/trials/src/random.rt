@@ -4,7 +4,7 @@ ghost use Rattle.std.specs.Prelude.{◌≤◌};
 use std::alloc::{AllocError, Global};
 
 // A linear congruential generator.
-#[derive(Clone, Copy)]
+#[derive(Clone, Copy, Debug, PartialEq, Eq)]
 pub struct Dice {
     state: u64,
 }
@@ -27,7 +27,7 @@ impl Dice {
 }
 
 // A junction in numbers.
-#[derive(Drop)]
+#[derive(Debug, PartialEq, Eq, Drop)]
 pub struct Numbers {
     pub cycle: u8,
     pub streams: u8,
