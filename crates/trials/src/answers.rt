@@ -1,7 +1,7 @@
 // What is answered for a junction, held against its plan.
-use crossing::{Junction, Verdict};
+use crossing::{Junction, Worth};
 use greens::{Green, Plan};
-use planning::{Done, Found, Tried, best, plan, try_all};
+use planning::{Done, Found, TooMany, best, plan, try_all};
 use std::fmt;
 
 // Why there is no answer that could be compared.
@@ -43,10 +43,7 @@ impl fmt::Display for Shown {
 // What is to spare in a plan, if that is what was said of it.
 fn judged(junction: &Junction, plan: &Plan, said: u64) -> Answer {
     match junction.judge(plan) {
-        Verdict::Good {
-            spare,
-            all_go: true,
-        } if u64::from(spare) == said => Ok(Some(spare)),
+        Ok(Worth { spare, all_go: true }) if u64::from(spare) == said => Ok(Some(spare)),
         _ => Err(Trouble::Wrong),
     }
 }
@@ -64,9 +61,8 @@ pub(crate) fn by_search(junction: &Junction) -> Answer {
 
 pub(crate) fn by_trying(junction: &Junction) -> Answer {
     match try_all(junction) {
-        Tried::Best(found) => judged_if_found(junction, Some(found)),
-        Tried::None => judged_if_found(junction, None),
-        Tried::TooMany => Err(Trouble::TooMany),
+        Ok(found) => judged_if_found(junction, found),
+        Err(TooMany) => Err(Trouble::TooMany),
     }
 }
 
