@@ -13,19 +13,15 @@ fn number_and_place(refusal: Option<Refusal>) -> (u64, u64) {
 }
 
 fn refused(cycle: u64, streams: u64, pairs: &[u8], table: &[u8]) -> (u64, u64) {
-    match Junction::read(cycle, streams, pairs, table) {
-        Ok(_) => TAKEN,
-        Err(refusal) => number_and_place(Some(refusal)),
-    }
+    number_and_place(Junction::read(cycle, streams, pairs, table).err())
 }
 
 // The number of the refusal, if the room was left as it was.
 fn plan_refused(cycle: u64, streams: u64, pairs: &[u8], table: &[u8]) -> u64 {
     let mut room = [7, 7, 7];
     match plan(cycle, streams, pairs, table, &mut room) {
-        Done::Refused(number) => { if room == [7, 7, 7] { number } else { 9 } }
-        Done::Planned(_) => 9,
-        Done::None => 9,
+        Done::Refused(number) if room == [7, 7, 7] => number,
+        _ => 9,
     }
 }
 
@@ -95,7 +91,7 @@ fn rooms(rt: HostRuntime) -> Result<(), Fail> {
     for (length, refusal) in [(0, (4, 0)), (3, (4, 3)), (4, TAKEN), (5, (4, 5))] {
         assert!(rt; length <= room.len());
         assert_eq!(rt;
-            number_and_place(junction.refuse_room(&room[0..length])),
+            number_and_place(junction.check_room(&room[0..length]).err()),
             refusal
         );
     }

@@ -61,7 +61,11 @@ fn greens_too_close(rt: HostRuntime) -> Result<(), Fail> {
         // More seconds to clear than the cycle has.
         ([0, 121, 1, 0], (0, 4), (6, 4), (6, 0, 1)),
     ] {
-        let close = Fault::TooClose { second, first, next };
+        let close = Fault::TooClose {
+            second,
+            first,
+            next,
+        };
         assert_eq!(rt; judged(table, one, other)?, Err(close));
     }
     Ok(())

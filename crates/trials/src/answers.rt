@@ -43,7 +43,12 @@ impl fmt::Display for Shown {
 // What is to spare in a plan, if that is what was said of it.
 fn judged(junction: &Junction, plan: &Plan, said: u64) -> Answer {
     match junction.judge(plan) {
-        Ok(Worth { spare, all_go: true }) if u64::from(spare) == said => Ok(Some(spare)),
+        Ok(
+            Worth {
+                spare,
+                all_go: true,
+            },
+        ) if u64::from(spare) == said => Ok(Some(spare)),
         _ => Err(Trouble::Wrong),
     }
 }
