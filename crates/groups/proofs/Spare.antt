@@ -87,13 +87,13 @@ under_most j w None under none = λ q is_good all_go. none (omega (arith, under.
 under_most j w (Some most) under is = λ q is_good all_go. omega (arith, under.each q is_good all_go, is.0, is.1)
 
 -- nobody has more to spare than what the cycle leaves to a stream
-pub most_stream : (j : Site) (k : ℕ) (r : Option ℕ) → k < j.streams → SomeIff r (j.comes k ≤ j.cycle) (j.cycle - j.comes k) → AtMost j r
-most_stream j k None h none = λ q is_good all_go. none (
+pub most_stream : (j : Site) (k cycle comes : ℕ) (r : Option ℕ) → k < j.streams → SomeIff r (comes ≤ cycle) (cycle - comes) → cycle ≡ j.cycle → comes ≡ j.comes k → AtMost j r
+most_stream j k cycle comes None h none whole come = λ q is_good all_go. none (
     ⊎_elim
-    (λ (short : j.cycle < j.comes k). absurd (omega (arith, (under_short j k h (omega arith)).each q is_good all_go)))
-    (λ (long : j.comes k ≤ j.cycle). long)
-    (cases_lt j.cycle (j.comes k)))
-most_stream j k (Some most) h is = λ q is_good all_go. omega (arith, (under_stream j k h).each q is_good all_go, is.0, is.1)
+    (λ (short : cycle < comes). absurd (omega (arith, (under_short j k h (omega arith)).each q is_good all_go)))
+    (λ (long : comes ≤ cycle). long)
+    (cases_lt cycle comes))
+most_stream j k cycle comes (Some most) h is whole come = λ q is_good all_go. omega (arith, (under_stream j k h).each q is_good all_go, is.0, is.1)
 
 -- one of two bounds
 pub most_either : (j : Site) (b : Bool) (r s : Option ℕ) → AtMost j r → AtMost j s → AtMost j (cond b r s)

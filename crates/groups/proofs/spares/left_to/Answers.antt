@@ -10,7 +10,4 @@ returns-then-ends-cycle c = λ there q is_good all_go.
     absurd (omega (arith, (under_short (site_of c.args.junction.now) c.args.stream there (omega arith)).each q is_good all_go))
 
 pub returns-else-ends-cycle : goal.returns-else-ends-cycle
-returns-else-ends-cycle c = λ there.
-    let whole : c.seconds-cycle.result ≡ (site_of c.args.junction.now).cycle = cc in
-    let comes : c.stream-ends.result.comes ≡ (site_of c.args.junction.now).comes c.args.stream = cc in
-    most_stream (site_of c.args.junction.now) c.args.stream c.checked_sub.result there (rw (whole, comes) at c.checked_sub.ensures)
+returns-else-ends-cycle c = λ there. most_stream (site_of c.args.junction.now) c.args.stream _ _ c.checked_sub.result there c.checked_sub.ensures (cc) (cc)
