@@ -57,10 +57,11 @@ fn asked_within(junction: &Junction, spare: u8, stream: usize) -> Option<u8>
     (long <= junction.cycle().seconds()).then_some(long)
 }
 
-// A junction laid out: its setting, in which every stream may begin in any second, but the anchor only in second 0. The greens have no length yet.
+// A junction laid out: its setting, in which every stream may begin in any second, but one. The greens have no length yet.
 #[derive(Drop)]
 pub(crate) struct Ground<'a> {
     pub(crate) junction: &'a Junction,
+    // The stream that begins in second 0.
     anchor: usize,
     setting: Setting,
     ghost there: { anchor < junction.now.count },
