@@ -52,7 +52,7 @@ fn planned(
     Ok(Some(found.spare))
 }
 
-// The same in numbers alone, as the entry gives it to its callers.
+// A best plan for the junction that the numbers give, left in the room, or that there is none, or why they are not taken: the same in numbers alone.
 pub fn plan(cycle: u64, streams: u64, pairs: &[u8], table: &[u8], room: &mut [u8]) -> Done
     ensures { Says (entry_refusal cycle streams pairs.now table.now room.old) (site_in cycle streams pairs.now table.now) room.old result room.new }
 {
