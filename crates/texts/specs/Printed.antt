@@ -4,8 +4,3 @@ use Rattle.std.specs.Prelude.{◌≡◌, ℕ, List, ◌++◌}
 -- after is what was there before, and then these bytes
 pub record Adds (before after bytes : List ℕ) : Type 0 where
   pub is : after ≡ before ++ bytes
-
--- after is what was there before, and then something
-pub record Grows (before after : List ℕ) : Type 0 where
-  pub rest : List ℕ
-  pub is : after ≡ before ++ rest

@@ -1,69 +1,57 @@
 // The line that says why a junction is refused.
 ghost use Rattle.std.specs.Prelude.{OnOk};
-ghost use Rattle.texts.specs.Printed.{Adds, Grows};
+ghost use Rattle.texts.specs.Printed.{Adds};
 ghost use Rattle.texts.specs.Refused.{refused_words, Says};
 ghost use Rattle.texts.specs.Sections.{told_of};
 
 use crate::answers::put_title;
-use crate::printing::{put, put_number};
+use crate::printing::Page;
 use crate::sections::Section;
 use crate::sentences::{say, say_cycle, say_stop, say_streams, say_table};
 use crossing::Refusal;
-use std::alloc::{AllocError, Global};
+use std::alloc::AllocError;
 
 // Why a section is refused.
-fn say_why(
-    heap: Global,
-    out: &mut Vec<u8>,
-    section: &Section<'_>,
-    refusal: Refusal,
-) -> Result<(), AllocError>
-    ensures { OnOk result (Grows out.old.items out.new.items) }
-{
+fn say_why(out: &mut Vec<u8>, section: &Section<'_>, refusal: Refusal) -> Result<(), AllocError> {
     let draft = &section.draft;
     match refusal {
-        Refusal::Cycle(seconds) => say_cycle(heap, out, seconds),
+        Refusal::Cycle(seconds) => say_cycle(out, seconds),
         Refusal::Streams(place) => say_streams(
-            heap,
             out,
             draft.names.as_slice(),
             draft.figures.as_slice(),
             place as usize,
         ),
         Refusal::Table(place) => say_table(
-            heap,
             out,
             draft.names.as_slice(),
             draft.clearings.as_slice(),
             place as usize,
         ),
-        Refusal::Room(_) => say(out, b"the room does not fit"),
+        Refusal::Room(_) => say(out, &[b"the room does not fit"]),
         Refusal::Text(_) => say_stop(out, section.stop),
     }
 }
 
 // The number of a refusal and its place.
-fn put_refused(heap: Global, out: &mut Vec<u8>, refusal: Refusal) -> Result<(), AllocError>
+fn put_refused(out: &mut Vec<u8>, refusal: Refusal) -> Result<(), AllocError>
     ensures { OnOk result (Adds out.old.items out.new.items (refused_words refusal)) }
 {
-    put(out, b"refused ")?;
-    put_number(heap, out, refusal.number())?;
-    put(out, b" at ")?;
-    put_number(heap, out, refusal.place())?;
-    put(out, b": ")
+    write!(out, "refused {} at {}: ", refusal.number(), refusal.place())
 }
 
 // The line that says why a section is refused.
 pub fn put_refusal(
-    heap: Global,
     out: &mut Vec<u8>,
     section: &Section<'_>,
     refusal: Refusal,
 ) -> Result<(), AllocError>
     ensures { OnOk result (Says out.old.items out.new.items (told_of section.now).name refusal) }
 {
+    let mut why = Vec::new(*out.allocator());
+    say_why(&mut why, section, refusal)?;
     put_title(out, section.name())?;
-    put_refused(heap, out, refusal)?;
-    say_why(heap, out, section, refusal)?;
-    put(out, b"\n")
+    put_refused(out, refusal)?;
+    out.put(why.as_slice())?;
+    out.put(b"\n")
 }

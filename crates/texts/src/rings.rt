@@ -5,7 +5,7 @@ ghost use Rattle.texts.specs.Printed.{Adds};
 ghost use Rattle.texts.specs.Answers.{each_from};
 ghost use Rattle.texts.specs.Rings.{goes_on, wide, widest, blanks, signs_to, ring_row, mark, marks_to, scale_row, rings};
 
-use crate::printing::{put, put_number};
+use crate::printing::Page;
 use greens::{Cycle, Green, Plan};
 use std::alloc::{AllocError, Global};
 
@@ -45,7 +45,7 @@ fn put_blanks(out: &mut Vec<u8>, count: usize) -> Result<(), AllocError>
     ensures { OnOk result (Adds out.old.items out.new.items (blanks count)) }
 {
     for blank in 0..count {
-        put(out, b" ")?;
+        out.put(b" ")?;
     }
     Ok(())
 }
@@ -69,33 +69,33 @@ fn digits_of(heap: Global, number: u64) -> Result<usize, AllocError>
 }
 
 // The next ten of the scale, after those up to 10 * `tens`.
-fn put_mark(heap: Global, out: &mut Vec<u8>, tens: u64) -> Result<(), AllocError>
+fn put_mark(out: &mut Vec<u8>, tens: u64) -> Result<(), AllocError>
     requires { tens ≤ 25 }
     ensures { OnOk result (Adds out.old.items out.new.items (mark tens)) }
 {
     let last = 10 * tens;
-    let long = digits_of(heap, last)?;
+    let long = digits_of(*out.allocator(), last)?;
     put_blanks(out, 10usize.saturating_sub(long))?;
-    put_number(heap, out, last + 10)
+    write!(out, "{}", last + 10)
 }
 
-fn put_marks(heap: Global, out: &mut Vec<u8>, tens: u64) -> Result<(), AllocError>
+fn put_marks(out: &mut Vec<u8>, tens: u64) -> Result<(), AllocError>
     requires { tens ≤ 25 }
     ensures { OnOk result (Adds out.old.items out.new.items (marks_to tens)) }
 {
     for ten in 0..tens {
-        put_mark(heap, out, ten)?;
+        put_mark(out, ten)?;
     }
     Ok(())
 }
 
-fn put_scale(heap: Global, out: &mut Vec<u8>, width: usize, cycle: Cycle) -> Result<(), AllocError>
+fn put_scale(out: &mut Vec<u8>, width: usize, cycle: Cycle) -> Result<(), AllocError>
     ensures { OnOk result (Adds out.old.items out.new.items (scale_row width cycle.seconds)) }
 {
     put_blanks(out, width)?;
-    put(out, b" 0")?;
-    put_marks(heap, out, u64::from((cycle.seconds() - 1) / 10))?;
-    put(out, b"\n")
+    out.put(b" 0")?;
+    put_marks(out, u64::from((cycle.seconds() - 1) / 10))?;
+    out.put(b"\n")
 }
 
 fn put_row(
@@ -107,11 +107,11 @@ fn put_row(
 ) -> Result<(), AllocError>
     ensures { OnOk result (Adds out.old.items out.new.items (ring_row width cycle.seconds name.now green)) }
 {
-    put(out, name)?;
+    out.put(name)?;
     put_blanks(out, width.saturating_sub(width_of(name)))?;
-    put(out, b" ")?;
+    out.put(b" ")?;
     put_signs(out, cycle, green)?;
-    put(out, b"\n")
+    out.put(b"\n")
 }
 
 fn put_rows(
@@ -131,7 +131,6 @@ fn put_rows(
 
 // The rows below an answer.
 pub fn put_rings(
-    heap: Global,
     out: &mut Vec<u8>,
     cycle: Cycle,
     names: &[&[u8]],
@@ -140,6 +139,6 @@ pub fn put_rings(
     ensures { OnOk result (Adds out.old.items out.new.items (rings cycle.seconds (map (λ x. x.now) names.now) (green_of plan.now.greens))) }
 {
     let width = widest_of(names);
-    put_scale(heap, out, width, cycle)?;
+    put_scale(out, width, cycle)?;
     put_rows(out, width, cycle, names, plan)
 }

@@ -1,5 +1,0 @@
-use Rattle.texts.proofs.Puts.{then_put}
-use Rattle.texts.proofs.answers.put_name.Goals as goal
-
-pub returns : goal.returns
-returns c = then_put _ _ _ c.in_ok-put.ensures c.put-2.ensures
