@@ -11,4 +11,5 @@ pub mod Tells
 pub mod Says
 pub mod Pushes
 pub mod Fronts
+pub mod Extends
 pub mod Splits

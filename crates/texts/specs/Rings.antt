@@ -1,5 +1,5 @@
 -- A plan as rows of signs, a sign a second. Assumes nothing: these are definitions.
-use Rattle.std.specs.Prelude.{ℕ, zero, suc, ◌+◌, ◌-◌, ◌*◌, ◌/◌, max, Bool, cond, ◌&&◌, List, [], ◌∷◌, ◌++◌, length, replicate, codes, decimal, nat_le, nat_lt}
+use Rattle.std.specs.Prelude.{ℕ, zero, suc, ◌+◌, ◌-◌, ◌*◌, ◌/◌, max, Bool, not, cond, ◌&&◌, fold, count_by, List, [], ◌∷◌, ◌++◌, length, replicate, codes, decimal, nat_le, nat_lt}
 use Rattle.greens.specs.declared.lights.Green.{Green}
 use Rattle.greens.specs.Greens.{on}
 use Rattle.texts.specs.Answers.{each_from}
@@ -10,13 +10,11 @@ goes_on b = nat_le 128 b && nat_lt b 192
 
 -- how many signs wide a name is: a byte that goes on with a sign adds none
 unfoldable pub wide : List ℕ → ℕ
-wide [] = 0
-wide (b ∷ bs) = cond (goes_on b) 0 1 + wide bs
+wide name = count_by (λ b. not (goes_on b)) name
 
 -- the width of the widest name
 unfoldable pub widest : List (List ℕ) → ℕ
-widest [] = 0
-widest (name ∷ names) = max (wide name) (widest names)
+widest names = fold (λ most name. max most (wide name)) 0 names
 
 abbrev pub blanks : ℕ → List ℕ
 blanks n = replicate n 32

@@ -7,13 +7,14 @@ ghost use Rattle.texts.specs.Rings.{goes_on, wide, widest, blanks, signs_to, rin
 
 use crate::printing::Page;
 use greens::{Cycle, Green, Plan};
-use std::alloc::{AllocError, Global};
+use std::alloc::AllocError;
+use std::iter;
 
 // Whether a byte goes on with a sign begun by the byte before it.
 fn goes_on(byte: u8) -> bool
     ensures { result ≡ goes_on byte }
 {
-    byte >= 128 && byte < 192
+    matches!(byte, 0x80..=0xbf)
 }
 
 // How many signs wide a name is.
@@ -21,66 +22,39 @@ fn width_of(name: &[u8]) -> usize
     ensures is { result ≡ wide name.now }
     ensures within { result ≤ length name.now }
 {
-    let mut width = 0;
-    for i in 0..name.len() {
-        if !goes_on(name[i]) {
-            width += 1;
-        }
-    }
-    width
+    name.iter().filter(|byte| !goes_on(**byte)).count()
 }
 
 // The width of the widest name.
 fn widest_of(names: &[&[u8]]) -> usize
     ensures { result ≡ widest (map (λ x. x.now) names.now) }
 {
-    let mut width = 0;
-    for i in 0..names.len() {
-        width = width_of(names[i]).max(width);
-    }
-    width
+    names.iter().map(|name| width_of(name)).max().unwrap_or(0)
 }
 
 fn put_blanks(out: &mut Vec<u8>, count: usize) -> Result<(), AllocError>
     ensures { OnOk result (Adds out.old.items out.new.items (blanks count)) }
 {
-    for blank in 0..count {
-        out.put(b" ")?;
-    }
-    Ok(())
+    out.extend(iter::repeat_n(b' ', count))
 }
 
 fn put_signs(out: &mut Vec<u8>, cycle: Cycle, green: Green) -> Result<(), AllocError>
     ensures { OnOk result (Adds out.old.items out.new.items (signs_to cycle.seconds green cycle.seconds)) }
 {
-    for second in 0..cycle.seconds() {
-        let sign = if green.on(cycle, second) { 35 } else { 46 };
-        out.push(sign)?;
-    }
-    Ok(())
-}
-
-// How many digits a number has.
-fn digits_of(heap: Global, number: u64) -> Result<usize, AllocError>
-    ensures { IfOk result (λ count. count ≡ length (decimal number)) }
-{
-    let digits = format!(in heap; "{number}")?;
-    Ok(digits.as_bytes().len())
+    out.extend((0..cycle.seconds()).map(|second| if green.on(cycle, second) { b'#' } else { b'.' }))
 }
 
 // The next ten of the scale, after those up to 10 * `tens`.
-fn put_mark(out: &mut Vec<u8>, tens: u64) -> Result<(), AllocError>
-    requires { tens ≤ 25 }
+fn put_mark(out: &mut Vec<u8>, tens: u8) -> Result<(), AllocError>
     ensures { OnOk result (Adds out.old.items out.new.items (mark tens)) }
 {
-    let last = 10 * tens;
-    let long = digits_of(*out.allocator(), last)?;
-    put_blanks(out, 10usize.saturating_sub(long))?;
+    let last = 10 * u64::from(tens);
+    let digits = format!(in *out.allocator(); "{last}")?;
+    put_blanks(out, 10usize.saturating_sub(digits.len()))?;
     write!(out, "{}", last + 10)
 }
 
-fn put_marks(out: &mut Vec<u8>, tens: u64) -> Result<(), AllocError>
-    requires { tens ≤ 25 }
+fn put_marks(out: &mut Vec<u8>, tens: u8) -> Result<(), AllocError>
     ensures { OnOk result (Adds out.old.items out.new.items (marks_to tens)) }
 {
     for ten in 0..tens {
@@ -94,7 +68,7 @@ fn put_scale(out: &mut Vec<u8>, width: usize, cycle: Cycle) -> Result<(), AllocE
 {
     put_blanks(out, width)?;
     out.put(b" 0")?;
-    put_marks(out, u64::from((cycle.seconds() - 1) / 10))?;
+    put_marks(out, (cycle.seconds() - 1) / 10)?;
     out.put(b"\n")
 }
 

@@ -1,20 +1,14 @@
-use Rattle.std.proofs.Common.{is_ok, vec_items, sym, ap, ◌∙◌}
-use Rattle.std.proofs.lemmas.Bool.{cond-true, cond-false}
-use Rattle.std.proofs.ResultArms.{chosen}
-use Rattle.texts.specs.Rings.{signs_to}
-use Rattle.texts.proofs.Rows.{adds_none, signs_more}
+use Rattle.std.proofs.Common.{◌≡◌, ℕ, cond, rules, tests, ap, ◌∙◌, arith}
+use Rattle.std.proofs.lemmas.Iterator.{YieldsList-from_map, YieldsList-from_range}
+use Rattle.greens.specs.Greens.{on}
+use Rattle.texts.proofs.Extends.{adds_items}
+use Rattle.texts.proofs.Rows.{signs_map}
 use Rattle.texts.proofs.rings.put_signs.Goals as goal
-use Rattle.texts.proofs.rings.put_signs.Goals.{then-on, else-on}
 
-pub loop-second-init : goal.loop-second-init
-unfolding signs_to
-loop-second-init c = adds_none (vec_items c.args.out.now)
-
-pub loop-second-preserved : goal.loop-second-preserved
-loop-second-preserved c =
-    let pushed = chosen _ _ _ _ c.push.ensures.items (ap is_ok c.in_ok-push.was) in
-    signs_more (vec_items c.push.new.self) c.args.cycle.seconds c.args.green c.loop-second.second _ c.loop-second.invariant pushed
-    (elim c.if-on.branch [
-      | then-on w ↦ w.sign-is ∙ sym (cond-true _ 35 46 (sym c.on.ensures ∙ w.if-on.true))
-      | else-on w ↦ w.sign-is ∙ sym (cond-false _ 35 46 (sym c.on.ensures ∙ w.if-on.false))
-    ])
+pub returns : goal.returns
+returns c =
+    let ran = c.extend.ensures.ran in
+    rw (← signs_map c.args.cycle.seconds c.args.green c.args.cycle.seconds)
+    (adds_items _ ran.0 _ _ _ c.extend.result ran.1 _ ran.3.0 ran.4
+    (YieldsList-from_map {s = ran.0} _ (λ (second : ℕ). cond {A = ℕ} (on c.args.cycle.seconds c.args.green second) 35 46)
+    (YieldsList-from_range 0 c.args.cycle.seconds c.args.cycle.seconds (cc) (omega arith)) (ap (λ x. x.f) ran.2) (λ second sign q called. search (rules, tests))))
