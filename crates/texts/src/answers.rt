@@ -1,9 +1,10 @@
 // The line that says a plan.
-ghost use Rattle.std.specs.Prelude.{map, OnOk};
+ghost use Rattle.std.specs.Prelude.{ℕ, List, map, OnOk};
 ghost use Rattle.std.specs.Option.{option_map};
 ghost use Rattle.greens.specs.Plans.{green_of};
-ghost use Rattle.texts.specs.Printed.{Adds};
-ghost use Rattle.texts.specs.Answers.{span_words, green_words, stream_words, streams_words, spare_words, title_words, answer_line, none_line};
+ghost use Rattle.greens.specs.declared.lights.Green.{Green};
+ghost use Rattle.texts.specs.Printed.{Adds, Puts};
+ghost use Rattle.texts.specs.Answers.{span_words, green_words, stream_words, each_from, spare_words, title_words, answer_line, none_line};
 
 use crate::printing::Page;
 use greens::{Green, Plan};
@@ -39,11 +40,18 @@ fn put_stream(out: &mut Vec<u8>, name: &[u8], green: Green) -> Result<(), AllocE
     out.put(b", ")
 }
 
-fn put_streams(out: &mut Vec<u8>, names: &[&[u8]], plan: &Plan) -> Result<(), AllocError>
-    ensures { OnOk result (Adds out.old.items out.new.items (streams_words (map (λ x. x.now) names.now) (green_of plan.now.greens))) }
+// A piece of text for each stream, by its name and its green.
+pub(crate) fn put_each<F: Fn(&mut Vec<u8>, &[u8], Green) -> Result<(), AllocError>>(
+    out: &mut Vec<u8>,
+    names: &[&[u8]],
+    plan: &Plan,
+    put_piece: F,
+) -> Result<(), AllocError>
+    requires { F.IsAlwaysCallable put_piece }
+    ensures { (piece : List ℕ → Green → List ℕ) → Puts (λ o. o.now.items) (F.post put_piece) piece → OnOk result (Adds out.old.items out.new.items (each_from piece (map (λ x. x.now) names.now) 0 (green_of plan.now.greens))) }
 {
-    for k in 0..names.len() {
-        put_stream(out, names[k], plan.green(k))?;
+    for (stream, name) in names.iter().enumerate() {
+        put_piece(out, name, plan.green(stream))?;
     }
     Ok(())
 }
@@ -76,7 +84,7 @@ pub fn put_answer(
     ensures { OnOk result (Adds out.old.items out.new.items (answer_line (option_map (λ x. x.now) title.entry) (map (λ x. x.now) names.now) (green_of plan.now.greens) spare)) }
 {
     put_title(out, title)?;
-    put_streams(out, names, plan)?;
+    put_each(out, names, plan, put_stream)?;
     put_spare(out, spare)
 }
 

@@ -5,6 +5,7 @@ ghost use Rattle.texts.specs.Printed.{Adds};
 ghost use Rattle.texts.specs.Answers.{each_from};
 ghost use Rattle.texts.specs.Rings.{goes_on, wide, widest, blanks, signs_to, ring_row, mark, marks_to, scale_row, rings};
 
+use crate::answers::put_each;
 use crate::printing::Page;
 use greens::{Cycle, Green, Plan};
 use std::alloc::AllocError;
@@ -88,21 +89,6 @@ fn put_row(
     out.put(b"\n")
 }
 
-fn put_rows(
-    out: &mut Vec<u8>,
-    width: usize,
-    cycle: Cycle,
-    names: &[&[u8]],
-    plan: &Plan,
-) -> Result<(), AllocError>
-    ensures { OnOk result (Adds out.old.items out.new.items (each_from (ring_row width cycle.seconds) (map (λ x. x.now) names.now) 0 (green_of plan.now.greens))) }
-{
-    for k in 0..names.len() {
-        put_row(out, width, cycle, names[k], plan.green(k))?;
-    }
-    Ok(())
-}
-
 // The rows below an answer.
 pub fn put_rings(
     out: &mut Vec<u8>,
@@ -114,5 +100,10 @@ pub fn put_rings(
 {
     let width = widest_of(names);
     put_scale(out, width, cycle)?;
-    put_rows(out, width, cycle, names, plan)
+    put_each(
+        out,
+        names,
+        plan,
+        |out, name, green| put_row(out, width, cycle, name, green),
+    )
 }
