@@ -7,7 +7,7 @@ ghost use Rattle.texts.specs.Sections.{told_of};
 use crate::answers::put_title;
 use crate::printing::Page;
 use crate::sections::Section;
-use crate::sentences::{say, say_cycle, say_stop, say_streams, say_table};
+use crate::sentences::{say_cycle, say_stop, say_streams, say_table};
 use crossing::Refusal;
 use std::alloc::AllocError;
 
@@ -28,7 +28,7 @@ fn say_why(out: &mut Vec<u8>, section: &Section<'_>, refusal: Refusal) -> Result
             draft.clearings.as_slice(),
             place as usize,
         ),
-        Refusal::Room(_) => say(out, &[b"the room does not fit"]),
+        Refusal::Room(_) => out.put(b"the room does not fit"),
         Refusal::Text(_) => say_stop(out, section.stop),
     }
 }
@@ -40,7 +40,7 @@ fn put_refused(out: &mut Vec<u8>, refusal: Refusal) -> Result<(), AllocError>
     write!(out, "refused {} at {}: ", refusal.number(), refusal.place())
 }
 
-// The line that says why a section is refused.
+// The line that says why a section is refused. Its sentence is made apart, so it can do no more than follow what is there.
 pub fn put_refusal(
     out: &mut Vec<u8>,
     section: &Section<'_>,

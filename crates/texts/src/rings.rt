@@ -1,5 +1,5 @@
 // A plan as rows of signs, a sign a second.
-ghost use Rattle.std.specs.Prelude.{◌≡◌, ◌+◌, ◌*◌, ◌≤◌, map, length, IfOk, decimal, OnOk};
+ghost use Rattle.std.specs.Prelude.{◌≡◌, ◌≤◌, map, length, OnOk};
 ghost use Rattle.greens.specs.Plans.{green_of};
 ghost use Rattle.texts.specs.Printed.{Adds};
 ghost use Rattle.texts.specs.Answers.{each_from};

@@ -6,7 +6,8 @@ use crate::sections::Stop;
 use crate::taking::number_said;
 use std::alloc::AllocError;
 
-pub(crate) fn say(out: &mut Vec<u8>, pieces: &[&[u8]]) -> Result<(), AllocError> {
+// Words of the text and our own, one after the other.
+fn say(out: &mut Vec<u8>, pieces: &[&[u8]]) -> Result<(), AllocError> {
     for piece in pieces {
         out.put(piece)?;
     }
@@ -16,11 +17,8 @@ pub(crate) fn say(out: &mut Vec<u8>, pieces: &[&[u8]]) -> Result<(), AllocError>
 // What is wrong with a line.
 fn say_fault(out: &mut Vec<u8>, fault: Fault<'_>) -> Result<(), AllocError> {
     match fault {
-        Fault::NoKind => say(
-            out,
-            &[
-                b"this line is none of: junction NAME, cycle SECONDS, NAME least SECONDS comes COUNT, NAME SECONDS NAME",
-            ],
+        Fault::NoKind => out.put(
+            b"this line is none of: junction NAME, cycle SECONDS, NAME least SECONDS comes COUNT, NAME SECONDS NAME",
         ),
         Fault::NoNumber(word, form) => say(
             out,
@@ -33,33 +31,32 @@ fn say_fault(out: &mut Vec<u8>, fault: Fault<'_>) -> Result<(), AllocError> {
         ),
         Fault::NoStream(word) => say(out, &[b"\"", word, b"\" is no stream of this junction"]),
         Fault::StreamAgain(name) => say(out, &[name, b" is said twice"]),
-        Fault::CycleAgain => say(out, &[b"cycle is said twice"]),
+        Fault::CycleAgain => out.put(b"cycle is said twice"),
         Fault::PairAgain(first, next) => say(out, &[first, b" SECONDS ", next, b" is said twice"]),
-        Fault::NoCycle => say(out, &[b"there is no cycle"]),
+        Fault::NoCycle => out.put(b"there is no cycle"),
     }
 }
 
 pub(crate) fn say_stop(out: &mut Vec<u8>, stop: Option<Stop<'_>>) -> Result<(), AllocError> {
     match stop {
         Some(stopped) => say_fault(out, stopped.fault),
-        None => say(out, &[b"the text is read otherwise"]),
+        None => out.put(b"the text is read otherwise"),
     }
 }
 
 // A number that is too large; one that a byte can't hold is not repeated.
-fn say_above(out: &mut Vec<u8>, number: u8) -> Result<(), AllocError> {
-    if number < 255 {
-        write!(out, " is {number}, above 120")
-    } else {
-        write!(out, " is above 120")
+fn say_above(out: &mut Vec<u8>, number: Option<u8>) -> Result<(), AllocError> {
+    match number {
+        Some(number) => write!(out, " is {number}, above 120"),
+        None => out.put(b" is above 120"),
     }
 }
 
 // Why a cycle is refused.
 pub(crate) fn say_cycle(out: &mut Vec<u8>, seconds: u64) -> Result<(), AllocError> {
     match seconds {
-        0 => write!(out, "cycle is 0, below 1"),
-        u64::MAX => write!(out, "cycle is above 120"),
+        0 => out.put(b"cycle is 0, below 1"),
+        u64::MAX => out.put(b"cycle is above 120"),
         _ => write!(out, "cycle is {seconds}, above 120"),
     }
 }
@@ -77,7 +74,7 @@ pub(crate) fn say_streams(
 ) -> Result<(), AllocError> {
     let count = names.len();
     if count == 0 {
-        return write!(out, "there is no stream");
+        return out.put(b"there is no stream");
     }
     if count > 12 {
         return write!(out, "there are {count} streams, above 12");
@@ -88,7 +85,10 @@ pub(crate) fn say_streams(
         b"comes of "
     };
     say(out, &[which, name_at(names, place / 2)])?;
-    say_above(out, figures.get(place).copied().unwrap_or(255))
+    say_above(
+        out,
+        figures.get(place).copied().filter(|&figure| figure < 255),
+    )
 }
 
 // Two cross, and nothing is said the other way.
@@ -118,7 +118,7 @@ fn say_pair(
 ) -> Result<(), AllocError> {
     if number > 121 {
         say(out, &[b"what is clear after ", first, b" before ", next])?;
-        return say_above(out, if number < 255 { number - 1 } else { 255 });
+        return say_above(out, (number < 255).then(|| number - 1));
     }
     if back == 0 {
         return say_one_way(out, first, next);
@@ -136,8 +136,8 @@ pub(crate) fn say_table(
     clearings: &[Clearing],
     place: usize,
 ) -> Result<(), AllocError> {
-    if names.len() == 0 {
-        return write!(out, "there is no stream");
+    if names.is_empty() {
+        return out.put(b"there is no stream");
     }
     let first = place / names.len();
     let next = place % names.len();
