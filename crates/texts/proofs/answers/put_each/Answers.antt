@@ -1,4 +1,4 @@
-use Rattle.std.proofs.Common.{◌++◌, ◌≡◌, is_ok, ap, arith}
+use Rattle.std.proofs.Common.{is_ok, ap, arith}
 use Rattle.greens.specs.Plans.{green_of}
 use Rattle.texts.proofs.Puts.{each_put, each_all}
 use Rattle.texts.proofs.answers.put_each.Goals as goal

@@ -1,4 +1,4 @@
-use Rattle.std.proofs.Common.{◌≡◌, rules}
+use Rattle.std.proofs.Common.{◌≡◌}
 use Rattle.std.specs.Iterator.Adapters.{repeat_n_steps}
 use Rattle.std.proofs.lemmas.Iterator.Adapters.{YieldsList-from_repeat_n}
 use Rattle.texts.proofs.Extends.{adds_items}

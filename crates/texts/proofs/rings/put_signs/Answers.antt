@@ -1,4 +1,4 @@
-use Rattle.std.proofs.Common.{◌≡◌, ℕ, cond, rules, tests, ap, ◌∙◌, arith}
+use Rattle.std.proofs.Common.{ℕ, cond, rules, tests, ap, arith}
 use Rattle.std.proofs.lemmas.Iterator.{YieldsList-from_map, YieldsList-from_range}
 use Rattle.greens.specs.Greens.{on}
 use Rattle.texts.proofs.Extends.{adds_items}
