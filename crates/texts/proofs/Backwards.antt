@@ -18,10 +18,7 @@ green_list g = cond (eqb g.long 0) (codes "never," ∷ []) (decimal g.from ∷ c
 
 -- a span, its comma and what follows, cut at its blanks
 span_cut : (g : Green) (rest : List ℕ) → (span_words g ++ codes ", ") ++ rest ≡ decimal g.from ++ (32 ∷ (codes "to" ++ (32 ∷ ((decimal (g.from + g.long) ++ (44 ∷ [])) ++ (32 ∷ rest)))))
-span_cut g rest =
-    append_assoc (span_words g) (codes ", ") rest
-    ∙ append_assoc (decimal g.from) (codes " to " ++ decimal (g.from + g.long)) (codes ", " ++ rest)
-    ∙ ap (λ l. decimal g.from ++ (codes " to " ++ l)) (sym (append_assoc (decimal (g.from + g.long)) (44 ∷ []) (32 ∷ rest)))
+span_cut g rest = simp append_assoc
 
 -- the words of a span, and of never
 span_spelled : (g : Green) (rest : List ℕ) → Small g → words ((span_words g ++ codes ", ") ++ rest) ≡ decimal g.from ∷ codes "to" ∷ (decimal (g.from + g.long) ++ (44 ∷ [])) ∷ words rest
@@ -118,9 +115,7 @@ module _ (names : List (List ℕ)) (plan : ℕ → Green) (spare : ℕ) (named :
 
   line_ends : (title : Option (List ℕ)) → answer_line title names plan spare ≡ (title_words title ++ line) ++ (10 ∷ [])
   unfolding line
-  line_ends title =
-      ap (λ l. title_words title ++ l) (sym (append_assoc (streams_words names plan) (codes "spare " ++ decimal spare) (10 ∷ [])))
-      ∙ sym (append_assoc (title_words title) (streams_words names plan ++ (codes "spare " ++ decimal spare)) (10 ∷ []))
+  line_ends title = simp append_assoc
 
   titled_back : (title : Option (List ℕ)) → title_is_word title ≡ true → greens_in (after_title (is_some title) (words (title_words title ++ line))) ≡ shown_from names 0 plan
   titled_back None is = line_back
