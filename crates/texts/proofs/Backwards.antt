@@ -22,7 +22,6 @@ span_cut g rest = simp append_assoc
 
 -- the words of a span, and of never
 span_spelled : (g : Green) (rest : List ℕ) → Small g → words ((span_words g ++ codes ", ") ++ rest) ≡ decimal g.from ∷ codes "to" ∷ (decimal (g.from + g.long) ++ (44 ∷ [])) ∷ words rest
-unfolding letters
 span_spelled g rest small =
     let end : List ℕ = decimal (g.from + g.long) ++ (44 ∷ []) in
     ap words (span_cut g rest)
@@ -31,7 +30,6 @@ span_spelled g rest small =
     ∙ ap (λ l. decimal g.from ∷ codes "to" ∷ l) (word_then end rest (word_push (decimal (g.from + g.long)) 44 (numeral_word (decimal (g.from + g.long)) (decimal_numeral (g.from + g.long) (omega arith))) refl))
 
 never_spelled : (rest : List ℕ) → words ((codes "never" ++ codes ", ") ++ rest) ≡ codes "never," ∷ words rest
-unfolding letters
 never_spelled rest = word_then (codes "never,") rest refl
 
 green_spelled : (g : Green) (rest : List ℕ) → Small g → words ((green_words g ++ codes ", ") ++ rest) ≡ green_list g ++ words rest
@@ -49,7 +47,7 @@ list_from [] k plan tail = tail
 list_from (name ∷ names) k plan tail = name ∷ (green_list (plan k) ++ list_from names (k + 1) plan tail)
 
 streams_spelled : (names : List (List ℕ)) (k : ℕ) (plan : ℕ → Green) (rest : List ℕ) → are_words names ≡ true → ((i : ℕ) → Small (plan i)) → words (each_from stream_words names k plan ++ rest) ≡ list_from names k plan (words rest)
-unfolding each_from are_words list_from
+unfolding each_from list_from
 streams_spelled [] k plan rest is small = refl
 streams_spelled (name ∷ names) k plan rest is small =
     let both = and_parts (is_word name) (are_words names) is in
@@ -102,7 +100,6 @@ module _ (names : List (List ℕ)) (plan : ℕ → Green) (spare : ℕ) (named :
   line = streams_words names plan ++ (codes "spare " ++ decimal spare)
 
   spare_spelled : words (codes "spare " ++ decimal spare) ≡ codes "spare" ∷ decimal spare ∷ []
-  unfolding letters
   spare_spelled =
       word_then (codes "spare") (decimal spare) refl
       ∙ ap (λ l. codes "spare" ∷ l) (word_last (decimal spare) (numeral_word (decimal spare) (decimal_numeral spare (omega arith))))

@@ -1,6 +1,7 @@
 -- The names that a text says are words. Assumes nothing.
 use Rattle.std.proofs.Common.{◌≡◌, ℕ, ◌+◌, Bool, true, false, cond, ◌&&◌, ◌||◌, eqb, ltb, List, [], ◌∷◌, ◌++◌, length, Some, None, codes, Option, sym, refl, subst, ⊎_elim, arith}
 use Rattle.std.specs.Str.{bytes_eq}
+use Rattle.std.proofs.lemmas.List.Folds.{list_all-append}
 use Rattle.std.proofs.lemmas.Bool.{and_parts, and_from, cases_Bool, cond_both, lt-ltb, not_from_false, or_from}
 use Rattle.texts.specs.Words.{blank, ended, words_from, words, lines, number_in, capped}
 use Rattle.texts.specs.Lines.{Said, nothing, begins, lasts, stream, clears, unread, with_number, numbered_stream, line_in}
@@ -11,24 +12,11 @@ use Rattle.texts.proofs.Spelled.{letters_push}
 use Rattle.texts.proofs.Splits.{at_end, at_blank, at_hash, at_letter}
 
 are_append : (xs ys : List (List ℕ)) → are_words xs ≡ true → are_words ys ≡ true → are_words (xs ++ ys) ≡ true
-unfolding are_words
-are_append [] ys one two = two
-are_append (x ∷ xs) ys one two =
-    let both = and_parts (is_word x) (are_words xs) one in
-    and_from (is_word x) (are_words (xs ++ ys)) both.0 (are_append xs ys both.1 two)
+are_append xs ys one two = rw (list_all-append, one, two)
 
 are_ended : (word : List ℕ) → letters word ≡ true → are_words (ended word) ≡ true
-unfolding are_words
 are_ended [] all = refl
 are_ended (b ∷ bs) all = and_from (is_word (b ∷ bs)) true (and_from (ltb 0 (length (b ∷ bs))) (letters (b ∷ bs)) (lt-ltb 0 (length (b ∷ bs)) (omega arith)) all) refl
-
-are_none : are_words [] ≡ true
-unfolding are_words
-are_none = refl
-
-no_letters : letters [] ≡ true
-unfolding letters
-no_letters = refl
 
 -- what a line is cut into
 are_from : (word bs : List ℕ) → letters word ≡ true → are_words (words_from word bs) ≡ true
@@ -36,7 +24,7 @@ are_from word [] all = subst (λ l. are_words l ≡ true) (sym (at_end 0 [] word
 are_from word (b ∷ bs) all =
     ⊎_elim
     (λ (h : blank b ≡ true).
-    subst (λ l. are_words l ≡ true) (sym (at_blank b bs word h)) (are_append (ended word) (words bs) (are_ended word all) (are_from [] bs no_letters)))
+    subst (λ l. are_words l ≡ true) (sym (at_blank b bs word h)) (are_append (ended word) (words bs) (are_ended word all) (are_from [] bs refl)))
     (λ (h : blank b ≡ false).
     ⊎_elim (λ (k : eqb b 35 ≡ true). subst (λ l. are_words l ≡ true) (sym (at_hash b bs word k)) (are_ended word all))
     (λ (k : eqb b 35 ≡ false).
@@ -59,7 +47,7 @@ numbered_word None line all = refl
 numbered_word (Some n) line all = all _
 
 line_word : (ws : List (List ℕ)) → are_words ws ≡ true → said_word (line_in ws) ≡ true
-unfolding line_in are_words
+unfolding line_in
 line_word [] is = refl
 line_word (a ∷ []) is = refl
 line_word (a ∷ b ∷ []) is =
@@ -81,10 +69,6 @@ abbrev Kept : Option Sofar → Type 0
 Kept None = Unit {0}
 Kept (Some s) = are_words s.names ≡ true
 
-one_name : (name : List ℕ) → is_word name ≡ true → are_words (name ∷ []) ≡ true
-unfolding are_words
-one_name name is = and_from (is_word name) true is refl
-
 cycle_kept : (s : Sofar) (seconds : ℕ) (o : Option ℕ) → are_words s.names ≡ true → Kept (with_cycle s seconds o)
 cycle_kept s seconds None are = are
 cycle_kept s seconds (Some c) are = tt
@@ -94,7 +78,7 @@ line_kept s nothing are is = are
 line_kept s (begins name) are is = tt
 line_kept s (lasts seconds) are is = cycle_kept s seconds s.cycle are
 line_kept s (stream name least comes) are is =
-    cond_both (ltb (place name s.names) (length s.names)) None _ Kept (λ _. tt) (λ _. are_append s.names (name ∷ []) are (one_name name is))
+    cond_both (ltb (place name s.names) (length s.names)) None _ Kept (λ _. tt) (λ _. are_append s.names (name ∷ []) are (and_from (is_word name) true is refl))
 line_kept s (clears first seconds next) are is =
     cond_both
     (ltb (place first s.names) (length s.names) && (ltb (place next s.names) (length s.names) && eqb (number_said s.clearings (place first s.names) (place next s.names)) 0))
@@ -137,16 +121,16 @@ by_begin_all None new other is one two = two
 by_begin_all (Some name) new other is one two = one name is
 
 all_from : (n : ℕ) (some : Bool) (t : Told) (ls : List (List ℕ)) → told_words t ≡ true → all_words (told_from n some t ls) ≡ true
-unfolding told_from all_words
+unfolding told_from
 all_from n some t [] good = and_from (told_words (closed n t)) true (closed_good n t good) refl
 all_from n some t (l ∷ ls) good =
-    let is : said_word (line_in (words l)) ≡ true = line_word (words l) (are_from [] l no_letters) in
+    let is : said_word (line_in (words l)) ≡ true = line_word (words l) (are_from [] l refl) in
     by_begin_all (begin_name (line_in (words l))) _ _ (begin_word (line_in (words l)) is)
     (λ name named.
-    let later : all_words (told_from (n + 1) true (opened (Some name)) ls) ≡ true = all_from (n + 1) true (opened (Some name)) ls (and_from (is_word name) (are_words []) named are_none) in
+    let later : all_words (told_from (n + 1) true (opened (Some name)) ls) ≡ true = all_from (n + 1) true (opened (Some name)) ls (and_from (is_word name) (are_words []) named refl) in
     cond_both some (closed n t ∷ told_from (n + 1) true (opened (Some name)) ls) (told_from (n + 1) true (opened (Some name)) ls) (λ ts. all_words ts ≡ true)
     (λ _. and_from (told_words (closed n t)) (all_words (told_from (n + 1) true (opened (Some name)) ls)) (closed_good n t good) later) (λ _. later))
     (all_from (n + 1) (some || says (line_in (words l))) (on_line n (line_in (words l)) t) ls (on_good n t good (line_in (words l)) is))
 
 pub names_are_words : NamesAreWords
-names_are_words text = all_from 0 false (opened None) (lines text) (and_from true (are_words []) refl are_none)
+names_are_words text = all_from 0 false (opened None) (lines text) (and_from true (are_words []) refl refl)

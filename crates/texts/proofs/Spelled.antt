@@ -2,6 +2,7 @@
 use Rattle.std.proofs.Common.{◌≡◌, ℕ, ◌+◌, ◌-◌, ◌*◌, ◌/◌, ◌%◌, ◌^◌, ◌<◌, ◌≤◌, true, false, ◌||◌, eqb, ltb, List, [], ◌∷◌, ◌++◌, length, get_or, Some, None, codes, decimal, Option, sym, refl, ap, ◌∙◌, ⊎_elim, append_assoc, append-nil, arith}
 use Rattle.std.specs.Str.{bytes_eq}
 use Rattle.std.proofs.lemmas.Fmt.{decimal_by_steps}
+use Rattle.std.proofs.lemmas.List.Folds.{list_all-append}
 use Rattle.std.proofs.lemmas.List.{length_push, take_at, get_or_append_left}
 use Rattle.std.proofs.lemmas.Bool.{and_parts, and_from, not-true, or_parts, lt-ltb, ltb-true, ne_eqb, cases_Bool}
 use Rattle.std.proofs.lemmas.Bool.Decides.{nat_tests}
@@ -12,7 +13,6 @@ use Rattle.texts.proofs.Splits.{at_end, at_blank, at_letter}
 
 -- a word goes on with letters up to the next blank, or to the line's end
 pub words_on : (word w rest : List ℕ) → letters w ≡ true → words_from word (w ++ (32 ∷ rest)) ≡ ended (word ++ w) ++ words rest
-unfolding letters
 words_on word [] rest all = at_blank 32 rest word refl ∙ ap (λ v. ended v ++ words rest) (sym (append-nil word))
 words_on word (b ∷ w) rest all =
     let both = and_parts (letter b) (letters w) all in
@@ -21,7 +21,6 @@ words_on word (b ∷ w) rest all =
     ∙ ap (λ v. ended v ++ words rest) (append_assoc word (b ∷ []) w)
 
 pub words_off : (word w : List ℕ) → letters w ≡ true → words_from word w ≡ ended (word ++ w)
-unfolding letters
 words_off word [] all = at_end 0 [] word ∙ ap ended (sym (append-nil word))
 words_off word (b ∷ w) all =
     let both = and_parts (letter b) (letters w) all in
@@ -38,11 +37,7 @@ word_last (b ∷ w) is = words_off [] (b ∷ w) (and_parts (ltb 0 (length (b ∷
 
 -- a letter more is still a word
 pub letters_push : (w : List ℕ) (b : ℕ) → letters w ≡ true → letter b ≡ true → letters (w ++ (b ∷ [])) ≡ true
-unfolding letters
-letters_push [] b all one = and_from (letter b) true one refl
-letters_push (c ∷ w) b all one =
-    let both = and_parts (letter c) (letters w) all in
-    and_from (letter c) (letters (w ++ (b ∷ []))) both.0 (letters_push w b both.1 one)
+letters_push w b all one = rw (list_all-append, all, one)
 
 pub word_push : (w : List ℕ) (b : ℕ) → is_word w ≡ true → letter b ≡ true → is_word (w ++ (b ∷ [])) ≡ true
 word_push w b is one =
@@ -69,7 +64,7 @@ digits_push m v d (b ∷ ds) e is =
     (λ (h : digit b ≡ false). let none : ◌≡◌ {A = Option ℕ} None (Some v) = rw h at e in absurd (grind arith)) (cases_Bool (digit b))
 
 one_digit : (n : ℕ) → n < 10 → Numeral n ((48 + n) ∷ [])
-unfolding letters digits_in
+unfolding digits_in
 one_digit n small = record {
   some = omega arith;
   all = grind (arith, nat_tests);

@@ -1,5 +1,6 @@
 -- An answer line read back. The theorem is a statement; a function's contract asks for its proof.
 use Rattle.std.specs.Prelude.{◌≡◌, ℕ, ◌+◌, ◌-◌, ◌<◌, Bool, true, false, cond, not, ◌&&◌, ◌||◌, List, [], ◌∷◌, length, take, is_some, Some, None, codes, Option, ◌==◌, nat_lt}
+use Rattle.std.specs.List.{list_all}
 use Rattle.std.specs.Option.{unwrap_or}
 use Rattle.std.specs.Str.{bytes_eq}
 use Rattle.greens.specs.declared.lights.Green.{Green}
@@ -45,17 +46,15 @@ answer_in titled line = greens_in (after_title titled (words (but_last line)))
 abbrev pub letter : ℕ → Bool
 letter b = not (blank b || b == 35)
 
-unfoldable pub letters : List ℕ → Bool
-letters [] = true
-letters (b ∷ bs) = letter b && letters bs
+abbrev pub letters : List ℕ → Bool
+letters w = list_all letter w
 
 abbrev pub is_word : List ℕ → Bool
 is_word w = nat_lt 0 (length w) && letters w
 
 -- names that are words
-unfoldable pub are_words : List (List ℕ) → Bool
-are_words [] = true
-are_words (name ∷ names) = is_word name && are_words names
+abbrev pub are_words : List (List ℕ) → Bool
+are_words names = list_all is_word names
 
 abbrev pub title_is_word : Option (List ℕ) → Bool
 title_is_word None = true
@@ -80,9 +79,8 @@ ReadBack =
 abbrev pub told_words : Told → Bool
 told_words t = title_is_word t.name && are_words t.said.names
 
-unfoldable pub all_words : List Told → Bool
-all_words [] = true
-all_words (t ∷ ts) = told_words t && all_words ts
+abbrev pub all_words : List Told → Bool
+all_words ts = list_all told_words ts
 
 -- so it is in every text: the answers for its junctions can be read back
 abbrev pub NamesAreWords : Type 0
