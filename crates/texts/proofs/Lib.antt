@@ -3,7 +3,6 @@ pub mod Seeks
 pub mod Named
 pub mod Backwards
 pub mod Spelled
-pub mod Rows
 pub mod Puts
 pub mod SameNumbers
 pub mod Taken

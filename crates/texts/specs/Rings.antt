@@ -1,5 +1,6 @@
 -- A plan as rows of signs, a sign a second. Assumes nothing: these are definitions.
-use Rattle.std.specs.Prelude.{ℕ, zero, suc, ◌+◌, ◌-◌, ◌*◌, ◌/◌, max, Bool, not, cond, ◌&&◌, fold, count_by, List, [], ◌∷◌, ◌++◌, length, replicate, codes, decimal, nat_le, nat_lt}
+use Rattle.std.specs.Prelude.{ℕ, zero, suc, ◌+◌, ◌-◌, ◌*◌, ◌/◌, max, Bool, not, cond, ◌&&◌, map, fold, count_by, List, [], ◌∷◌, ◌++◌, length, replicate, codes, decimal, nat_le, nat_lt}
+use Rattle.std.specs.List.{range_with_len}
 use Rattle.greens.specs.declared.lights.Green.{Green}
 use Rattle.greens.specs.Greens.{on}
 use Rattle.texts.specs.Answers.{each_from}
@@ -21,8 +22,7 @@ blanks n = replicate n 32
 
 -- the first n seconds of a green: `#` where it is on, `.` where not
 unfoldable pub signs_to : (cycle : ℕ) → Green → (n : ℕ) → List ℕ
-signs_to cycle g zero = []
-signs_to cycle g (suc n) = signs_to cycle g n ++ (cond (on cycle g n) 35 46 ∷ [])
+signs_to cycle g n = map (λ second. cond (on cycle g second) 35 46) (range_with_len 0 n)
 
 -- a stream's row: its name, blanks up to the widest and one more, and a sign for each second of the cycle
 abbrev pub ring_row : (width cycle : ℕ) (name : List ℕ) → Green → List ℕ
