@@ -40,7 +40,7 @@ fn put_refused(out: &mut Vec<u8>, refusal: Refusal) -> Result<(), AllocError>
     write!(out, "refused {} at {}: ", refusal.number(), refusal.place())
 }
 
-// The line that says why a section is refused. Its sentence is made apart, so it can do no more than follow what is there.
+// The line that says why a section is refused. Its sentence is made apart, and so it can change nothing that stands before it.
 pub fn put_refusal(
     out: &mut Vec<u8>,
     section: &Section<'_>,

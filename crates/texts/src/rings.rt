@@ -1,5 +1,5 @@
 // A plan as rows of signs, a sign a second.
-ghost use Rattle.std.specs.Prelude.{◌≡◌, ◌≤◌, map, length, OnOk};
+ghost use Rattle.std.specs.Prelude.{◌≡◌, map, OnOk};
 ghost use Rattle.greens.specs.Plans.{green_of};
 ghost use Rattle.texts.specs.Printed.{Adds};
 ghost use Rattle.texts.specs.Answers.{each_from};
@@ -20,8 +20,7 @@ fn goes_on(byte: u8) -> bool
 
 // How many signs wide a name is.
 fn width_of(name: &[u8]) -> usize
-    ensures is { result ≡ wide name.now }
-    ensures within { result ≤ length name.now }
+    ensures { result ≡ wide name.now }
 {
     name.iter().filter(|byte| !goes_on(**byte)).count()
 }
