@@ -1,14 +1,12 @@
 pub mod Figures
+pub mod Pairs
 pub mod Seeks
 pub mod Named
 pub mod Backwards
 pub mod Spelled
 pub mod Puts
 pub mod SameNumbers
-pub mod Taken
 pub mod Tells
 pub mod Says
-pub mod Pushes
-pub mod Fronts
 pub mod Extends
 pub mod Splits

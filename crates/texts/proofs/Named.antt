@@ -1,11 +1,11 @@
 -- The names that a text says are words. Assumes nothing.
-use Rattle.std.proofs.Common.{◌≡◌, ℕ, ◌+◌, Bool, true, false, cond, ◌&&◌, ◌||◌, eqb, ltb, List, [], ◌∷◌, ◌++◌, length, Some, None, codes, Option, sym, refl, subst, ⊎_elim, arith}
+use Rattle.std.proofs.Common.{◌≡◌, ℕ, ◌+◌, Bool, true, false, cond, ◌&&◌, ◌||◌, eqb, ltb, List, [], ◌∷◌, ◌++◌, length, is_some, Some, None, codes, Option, sym, refl, subst, ⊎_elim, arith}
 use Rattle.std.specs.Str.{bytes_eq}
 use Rattle.std.proofs.lemmas.List.Folds.{list_all-append}
 use Rattle.std.proofs.lemmas.Bool.{and_parts, and_from, cases_Bool, cond_both, lt-ltb, not_from_false, or_from}
-use Rattle.texts.specs.Words.{blank, ended, words_from, words, lines, number_in, capped}
+use Rattle.texts.specs.Words.{blank, ended, words_from, words, lines, number_in}
 use Rattle.texts.specs.Lines.{Said, nothing, begins, lasts, stream, clears, unread, with_number, numbered_stream, line_in}
-use Rattle.texts.specs.Drafts.{Sofar, with_cycle, with_line, place, number_said}
+use Rattle.texts.specs.Drafts.{Sofar, with_cycle, with_pair, with_line, place, number_said}
 use Rattle.texts.specs.Sections.{Told, opened, more_said, unless_stopped, on_line, need_cycle, closed, begin_name, by_begin, says, told_from}
 use Rattle.texts.specs.Back.{letters, is_word, are_words, title_is_word, told_words, all_words, NamesAreWords}
 use Rattle.texts.proofs.Spelled.{letters_push}
@@ -73,17 +73,18 @@ cycle_kept : (s : Sofar) (seconds : ℕ) (o : Option ℕ) → are_words s.names 
 cycle_kept s seconds None are = are
 cycle_kept s seconds (Some c) are = tt
 
+pair_kept : (s : Sofar) (a b : Option ℕ) (seconds : ℕ) → are_words s.names ≡ true → Kept (with_pair s a b seconds)
+pair_kept s None b seconds are = tt
+pair_kept s (Some a) None seconds are = tt
+pair_kept s (Some a) (Some b) seconds are = cond_both (is_some (number_said s.clearings a b)) None _ Kept (λ _. tt) (λ _. are)
+
 line_kept : (s : Sofar) (line : Said) → are_words s.names ≡ true → said_word line ≡ true → Kept (with_line s line)
 line_kept s nothing are is = are
 line_kept s (begins name) are is = tt
 line_kept s (lasts seconds) are is = cycle_kept s seconds s.cycle are
 line_kept s (stream name least comes) are is =
-    cond_both (ltb (place name s.names) (length s.names)) None _ Kept (λ _. tt) (λ _. are_append s.names (name ∷ []) are (and_from (is_word name) true is refl))
-line_kept s (clears first seconds next) are is =
-    cond_both
-    (ltb (place first s.names) (length s.names) && (ltb (place next s.names) (length s.names) && eqb (number_said s.clearings (place first s.names) (place next s.names)) 0))
-    (Some (record { cycle = s.cycle; names = s.names; figures = s.figures; clearings = s.clearings ++ (record { first = place first s.names; next = place next s.names; number = capped 254 seconds + 1 } ∷ []) }))
-    None Kept (λ _. are) (λ _. tt)
+    cond_both (is_some (place name s.names)) None _ Kept (λ _. tt) (λ _. are_append s.names (name ∷ []) are (and_from (is_word name) true is refl))
+line_kept s (clears first seconds next) are is = pair_kept s (place first s.names) (place next s.names) seconds are
 line_kept s unread are is = tt
 
 -- a junction more, a line more, an end

@@ -1,17 +1,57 @@
 -- The first line of a text and the first word of a line. Assumes nothing.
-use Rattle.std.proofs.Common.{◌≡◌, ℕ, zero, suc, ◌+◌, ◌-◌, ◌<◌, Bool, true, false, not, ◌||◌, eqb, List, [], ◌∷◌, ◌++◌, length, take, drop, sym, refl, ap, ◌∙◌, ⊎_elim, append_assoc, append-nil, add-one, arith}
+use Rattle.std.proofs.Common.{◌≡◌, ℕ, suc, ◌+◌, ◌-◌, ◌<◌, ◌≤◌, Bool, true, false, not, eqb, ltb, List, [], ◌∷◌, ◌++◌, length, take, drop, Option, Some, None, sym, refl, ap, ◌∙◌, ⊎_elim, append_assoc, append-nil, arith}
+use Rattle.std.specs.List.{filter, onto_first, slice_split, position, position_or_len, before_first, after_first}
 use Rattle.std.proofs.lemmas.List.{take_rest, take_all, drop_all}
-use Rattle.std.proofs.lemmas.Bool.{cases_Bool, or_left, or_right}
+use Rattle.std.proofs.lemmas.Option.{cond_some}
+use Rattle.std.proofs.lemmas.Bool.{cases_Bool, ne_eqb}
 use Rattle.std.proofs.lemmas.Bool.Decides.{nat_tests}
-use Rattle.texts.specs.Words.{onto, lines, front, line_end, blank, ended, words_from, words, gap, word_end}
+use Rattle.texts.specs.Words.{lines, blank, ended, words_from, words}
+
+-- a cut at the first byte that passes a test, or after all where none does
+module _ (p : ℕ → Bool) (bs : List ℕ) where
+  at_first : (i : ℕ) (r : Option ℕ) → r ≡ position p bs → r ≡ Some i → i ≡ position_or_len p bs
+  at_first i r is some = sym (cond_some (ltb (position_or_len p bs) (length bs)) (position_or_len p bs) i (sym is ∙ some)).1
+
+  pub cut_some : (i : ℕ) (r : Option ℕ) → r ≡ position p bs → r ≡ Some i → (take i bs ≡ before_first p bs) × (take (length bs - (i + 1)) (drop (i + 1) bs) ≡ after_first p bs)
+  cut_some i r is some =
+      let here = at_first i r is some in (ap (λ n. take n bs) here, take_rest bs (i + 1) ∙ ap (λ n. drop (n + 1) bs) here)
+
+  pub cut_none : (r : Option ℕ) → r ≡ position p bs → r ≡ None → (bs ≡ before_first p bs) × ([] ≡ after_first p bs)
+  cut_none r is none =
+      let past : length bs ≤ position_or_len p bs = grind (arith, nat_tests) in
+      (sym (take_all (position_or_len p bs) bs past), sym (drop_all (position_or_len p bs + 1) bs (omega arith)))
+
+  place_on : (b : ℕ) → p b ≡ false → position_or_len p (b ∷ bs) ≡ suc (position_or_len p bs)
+  place_on b h = rw h (omega arith)
+
+  before_on : (b : ℕ) → p b ≡ false → before_first p (b ∷ bs) ≡ b ∷ before_first p bs
+  before_on b h = ap (λ n. take n (b ∷ bs)) (place_on b h)
+
+  before_off : (b : ℕ) → p b ≡ true → before_first p (b ∷ bs) ≡ []
+  before_off b h = rw h
+
+  after_on : (b : ℕ) → p b ≡ false → after_first p (b ∷ bs) ≡ after_first p bs
+  after_on b h = let long : position_or_len p (b ∷ bs) + 1 ≡ suc (position_or_len p bs + 1) = omega (arith, place_on b h) in ap (λ n. drop n (b ∷ bs)) long
 
 -- a text that isn't empty is its first line and those after it
-pub lines_first : (b : ℕ) (bs : List ℕ) → lines (b ∷ bs) ≡ take (line_end (b ∷ bs)) (b ∷ bs) ∷ lines (drop (suc (line_end (b ∷ bs))) (b ∷ bs))
-unfolding lines front
-lines_first b [] = ⊎_elim (λ (h : eqb b 10 ≡ true). rw h) (λ (h : eqb b 10 ≡ false). rw h) (cases_Bool (eqb b 10))
-lines_first b (c ∷ cs) =
+line_on : (b : ℕ) (bs : List ℕ) → eqb b 10 ≡ false → lines (b ∷ bs) ≡ onto_first b (lines bs)
+unfolding lines
+line_on b bs h = rw h
+
+lines_cut : (bs : List ℕ) → 0 < length bs → lines bs ≡ before_first (λ b. eqb b 10) bs ∷ lines (after_first (λ b. eqb b 10) bs)
+unfolding lines
+lines_cut [] some = absurd (omega arith)
+lines_cut (b ∷ []) some = ⊎_elim (λ (h : eqb b 10 ≡ true). rw h) (λ (h : eqb b 10 ≡ false). rw h) (cases_Bool (eqb b 10))
+lines_cut (b ∷ c ∷ cs) some =
     ⊎_elim (λ (h : eqb b 10 ≡ true). rw h)
-    (λ (h : eqb b 10 ≡ false). rw h (ap (onto b) (lines_first c cs))) (cases_Bool (eqb b 10))
+    (λ (h : eqb b 10 ≡ false).
+    line_on b (c ∷ cs) h ∙ ap (onto_first b) (lines_cut (c ∷ cs) (omega arith))
+    ∙ ap (λ l. l ∷ lines (after_first (λ b. eqb b 10) (c ∷ cs))) (sym (before_on (λ b. eqb b 10) (c ∷ cs) b h))
+    ∙ ap (λ l. before_first (λ b. eqb b 10) (b ∷ c ∷ cs) ∷ lines l) (sym (after_on (λ b. eqb b 10) (c ∷ cs) b h)))
+    (cases_Bool (eqb b 10))
+
+pub line_cut : (bs line rest : List ℕ) → 0 < length bs → line ≡ before_first (λ b. eqb b 10) bs → rest ≡ after_first (λ b. eqb b 10) bs → lines bs ≡ line ∷ lines rest
+line_cut bs line rest some one two = rw (one, two) (lines_cut bs some)
 
 -- a byte that is blank is no #
 blank_other : (b : ℕ) → blank b ≡ true → eqb b 35 ≡ false
@@ -37,92 +77,57 @@ module _ (b : ℕ) (bs word : List ℕ) where
   unfolding words_from
   at_letter h k = rw (k, h)
 
-module _ (b : ℕ) (bs : List ℕ) where
-  gap_on : blank b ≡ true → gap (b ∷ bs) ≡ suc (gap bs)
-  unfolding front
-  gap_on h = rw h
+-- the parts of a line that are not empty are its words
+abbrev some_of : List (List ℕ) → List (List ℕ)
+some_of parts = filter (λ w. not (eqb (length w) 0)) parts
 
-  gap_over : blank b ≡ false → gap (b ∷ bs) ≡ 0
-  unfolding front
-  gap_over h = rw h
+some_ended : (word : List ℕ) (parts : List (List ℕ)) → some_of (word ∷ parts) ≡ ended word ++ some_of parts
+some_ended [] parts = refl
+some_ended (b ∷ bs) parts = let some : eqb (length (b ∷ bs)) 0 ≡ false = ne_eqb (length (b ∷ bs)) 0 (λ e. omega arith) in rw some
 
-  word_over : (blank b || eqb b 35) ≡ true → word_end (b ∷ bs) ≡ 0
-  unfolding front
-  word_over h = rw h
+-- a word that goes on with the first part
+abbrev after_word : (word : List ℕ) → List (List ℕ) → List (List ℕ)
+after_word word [] = word ∷ []
+after_word word (part ∷ parts) = (word ++ part) ∷ parts
 
-  word_on : blank b ≡ false → eqb b 35 ≡ false → word_end (b ∷ bs) ≡ suc (word_end bs)
-  unfolding front
-  word_on h k = rw (h, k)
+after_letter : (word : List ℕ) (b : ℕ) (parts : List (List ℕ)) → after_word word (onto_first b parts) ≡ after_word (word ++ (b ∷ [])) parts
+after_letter word b [] = refl
+after_letter word b (part ∷ parts) = ap (λ w. w ∷ parts) (sym (append_assoc word (b ∷ []) part))
 
-no_front : (test : ℕ → Bool) → front test [] ≡ 0
-unfolding front
-no_front test = refl
+after_none : (b : ℕ) (parts : List (List ℕ)) → after_word [] (onto_first b parts) ≡ onto_first b parts
+after_none b [] = refl
+after_none b (part ∷ parts) = refl
 
--- blanks in front don't matter
-pub words_gap : (bs : List ℕ) → words bs ≡ words (drop (gap bs) bs)
-words_gap [] = rw (no_front blank)
-words_gap (b ∷ bs) =
-    ⊎_elim (λ (h : blank b ≡ true). rw (gap_on b bs h) (at_blank b bs [] h ∙ words_gap bs))
-    (λ (h : blank b ≡ false). rw (gap_over b bs h)) (cases_Bool (blank b))
+after_split : (bs : List ℕ) → after_word [] (slice_split blank bs) ≡ slice_split blank bs
+after_split [] = refl
+after_split (b ∷ bs) =
+    ⊎_elim (λ (h : blank b ≡ true). rw h) (λ (h : blank b ≡ false). rw h (after_none b (slice_split blank bs))) (cases_Bool (blank b))
 
--- the word so far goes on with the word that a line begins with
-pub words_end : (word bs : List ℕ) → words_from word bs ≡ ended (word ++ take (word_end bs) bs) ++ words (drop (word_end bs) bs)
-words_end word [] = rw (no_front (λ b. not (blank b || eqb b 35)), at_end 0 [] word, at_end 0 [] []) (nothing_more word)
-words_end word (b ∷ bs) =
+-- what stands before the first #
+abbrev before : List ℕ → List ℕ
+before bs = before_first (λ b. eqb b 35) bs
+
+words_parts : (word bs : List ℕ) → words_from word bs ≡ some_of (after_word word (slice_split blank (before bs)))
+words_parts word [] = at_end 0 [] word ∙ nothing_more word ∙ sym (some_ended (word ++ []) [])
+words_parts word (b ∷ bs) =
     ⊎_elim
     (λ (h : blank b ≡ true).
-    rw (word_over b bs (or_left (blank b) (eqb b 35) h), at_blank b bs word h, at_blank b bs [] h) (ap (λ w. ended w ++ words bs) (sym (append-nil word))))
+    let parts : List (List ℕ) = slice_split blank (before bs) in
+    at_blank b bs word h ∙ ap (λ l. ended word ++ l) (words_parts [] bs ∙ ap some_of (after_split (before bs)))
+    ∙ ap (λ w. ended w ++ some_of parts) (sym (append-nil word)) ∙ sym (some_ended (word ++ []) parts)
+    ∙ rw (before_on (λ b. eqb b 35) bs b (blank_other b h), h))
     (λ (h : blank b ≡ false).
-    ⊎_elim (λ (k : eqb b 35 ≡ true). rw (word_over b bs (or_right (blank b) (eqb b 35) k), at_hash b bs word k, at_hash b bs [] k) (nothing_more word))
-    (λ (k : eqb b 35 ≡ false).
-    rw (word_on b bs h k, at_letter b bs word h k)
-    (words_end (word ++ (b ∷ [])) bs ∙ ap (λ w. ended w ++ words (drop (word_end bs) bs)) (append_assoc word (b ∷ []) (take (word_end bs) bs))))
-    (cases_Bool (eqb b 35))) (cases_Bool (blank b))
-
--- where no word follows the blanks there is none
-pub no_word : (bs : List ℕ) → word_end (drop (gap bs) bs) ≡ 0 → words bs ≡ []
-no_word [] none = at_end 0 [] []
-no_word (b ∷ bs) none =
     ⊎_elim
-    (λ (h : blank b ≡ true). at_blank b bs [] h ∙ no_word bs (rw (gap_on b bs h) at none))
-    (λ (h : blank b ≡ false).
-    ⊎_elim (λ (k : eqb b 35 ≡ true). at_hash b bs [] k)
+    (λ (k : eqb b 35 ≡ true).
+    at_hash b bs word k ∙ nothing_more word ∙ sym (some_ended (word ++ []) []) ∙ rw (before_off (λ b. eqb b 35) bs b k))
     (λ (k : eqb b 35 ≡ false).
-    let zero : word_end (b ∷ bs) ≡ 0 = rw (gap_over b bs h) at none in absurd (omega (arith, word_on b bs h k))) (cases_Bool (eqb b 35))) (cases_Bool (blank b))
+    at_letter b bs word h k ∙ words_parts (word ++ (b ∷ [])) bs
+    ∙ ap some_of (sym (after_letter word b (slice_split blank (before bs)))) ∙ rw (before_on (λ b. eqb b 35) bs b k, h))
+    (cases_Bool (eqb b 35)))
+    (cases_Bool (blank b))
 
--- else the word that follows them is the first
-first_word : (bs : List ℕ) (n : ℕ) → word_end bs ≡ n → 0 < n → words bs ≡ take n bs ∷ words (drop n bs)
-unfolding front
-first_word [] n long some = absurd (omega arith)
-first_word (b ∷ bs) zero long some = absurd (omega arith)
-first_word (b ∷ bs) (suc n) long some = words_end [] (b ∷ bs) ∙ rw long
-
-pub one_word : (bs : List ℕ) (n : ℕ) → word_end (drop (gap bs) bs) ≡ n → 0 < n → words bs ≡ take n (drop (gap bs) bs) ∷ words (drop n (drop (gap bs) bs))
-one_word bs n long some = words_gap bs ∙ first_word (drop (gap bs) bs) n long some
-
--- a text cut after its first line
-pub cut_inside : (bs : List ℕ) (e : ℕ) → e ≡ line_end bs → 0 < length bs → lines bs ≡ take e bs ∷ lines (take (length bs - (e + 1)) (drop (e + 1) bs))
-cut_inside [] e is some = absurd (omega arith)
-cut_inside (b ∷ bs) e is some = rw (take_rest (b ∷ bs) (e + 1), add-one, is) (lines_first b bs)
-
-pub cut_whole : (bs : List ℕ) (e : ℕ) → e ≡ line_end bs → e ≡ length bs → 0 < length bs → lines bs ≡ bs ∷ lines (take (length bs - e) (drop e bs))
-cut_whole [] e is whole some = absurd (omega arith)
-cut_whole (b ∷ bs) e is whole some =
-    rw (take_rest (b ∷ bs) e, drop_all e (b ∷ bs) (omega arith))
-    (lines_first b bs ∙ rw (sym is, whole) (rw (take_all (length (b ∷ bs)) (b ∷ bs) (omega arith), drop_all (suc (length (b ∷ bs))) (b ∷ bs) (omega arith))))
-
--- the same, as a line is cut at the word: `rest` is the line after its blanks
-module _ (bs rest : List ℕ) (g e : ℕ) (is : g ≡ gap bs) (rests : rest ≡ take (length bs - g) (drop g bs)) (ends : e ≡ word_end rest) where
-  rest_is : rest ≡ drop (gap bs) bs
-  rest_is = rests ∙ take_rest bs g ∙ ap (λ n. drop n bs) is
-
-  pub word_none : e ≡ 0 → words bs ≡ []
-  word_none none = no_word bs (ap word_end (sym rest_is) ∙ sym ends ∙ none)
-
-  pub word_cut : 0 < e → words bs ≡ take e rest ∷ words (take (length rest - e) (drop e rest))
-  word_cut some =
-      rw (take_rest rest e)
-      (rw (sym rest_is) at (one_word bs e (ap word_end (sym rest_is) ∙ sym ends) some))
+pub words_split : (bs said : List ℕ) → said ≡ before bs → some_of (slice_split blank said) ≡ words bs
+words_split bs said is = ap (λ l. some_of (slice_split blank l)) is ∙ ap some_of (sym (after_split (before bs))) ∙ sym (words_parts [] bs)
 
 -- an empty text has no lines
 pub no_lines : (bs : List ℕ) → length bs ≡ 0 → lines bs ≡ []

@@ -1,6 +1,7 @@
 -- The numbers of a junction that a text says, and what reading them answers. Assumes nothing: these are definitions.
-use Rattle.std.specs.Prelude.{◌≡◌, ℕ, zero, suc, ◌*◌, ◌/◌, ◌%◌, cond, List, [], ◌∷◌, ◌++◌, length, Some, None, Err, Option, Result, nat_lt}
+use Rattle.std.specs.Prelude.{◌≡◌, ℕ, ◌*◌, ◌/◌, ◌%◌, cond, List, [], map, length, Some, None, Err, Option, Result, nat_lt}
 use Rattle.std.specs.Option.{unwrap_or}
+use Rattle.std.specs.List.{range_with_len}
 use Rattle.crossing.specs.declared.junctions.Junction.{Junction}
 use Rattle.crossing.specs.declared.refusals.Refusal.{Refusal}
 use Rattle.crossing.specs.declared.refusals.Refusal.TheVariants.{Text}
@@ -9,14 +10,13 @@ use Rattle.texts.specs.declared.drafts.Clearing.{Clearing}
 use Rattle.texts.specs.Drafts.{Sofar, number_said}
 use Rattle.texts.specs.Sections.{Told}
 
--- the first k numbers of a table for n streams, row by row: what was said of the row's stream and the column's
-unfoldable pub table_to : (n : ℕ) → List Clearing → (k : ℕ) → List ℕ
-table_to n clearings zero = []
-table_to n clearings (suc k) = table_to n clearings k ++ (number_said clearings (k / n) (k % n) ∷ [])
+-- a table's number for two streams: 0 where nothing was said of them
+abbrev pub table_number : List Clearing → (a b : ℕ) → ℕ
+table_number clearings a b = unwrap_or (number_said clearings a b) 0
 
--- the whole table; for more than 12 streams none is needed, since they are refused by their count
+-- the table for n streams, row by row: what was said of the row's stream and the column's; for more than 12 streams none is needed, since they are refused by their count
 abbrev pub table_said : (n : ℕ) → List Clearing → List ℕ
-table_said n clearings = cond (nat_lt 12 n) [] (table_to n clearings (n * n))
+table_said n clearings = cond (nat_lt 12 n) [] (map (λ k. table_number clearings (k / n) (k % n)) (range_with_len 0 (n * n)))
 
 -- what a junction is answered that can be read: its numbers are read
 abbrev pub Numbered : Sofar → Result Junction Refusal → Type 0

@@ -1,24 +1,11 @@
 -- A text as lines, a line as words, and a word as a number. Assumes nothing: these are definitions.
-use Rattle.std.specs.Prelude.{ℕ, suc, ◌+◌, ◌-◌, ◌*◌, min, Bool, cond, not, ◌&&◌, ◌||◌, List, [], ◌∷◌, ◌++◌, Some, None, Option, ◌==◌, nat_le}
-
--- a byte in front of the lines that follow it stands at the beginning of the first of them
-abbrev pub onto : ℕ → List (List ℕ) → List (List ℕ)
-onto b [] = (b ∷ []) ∷ []
-onto b (line ∷ lines) = (b ∷ line) ∷ lines
+use Rattle.std.specs.Prelude.{ℕ, ◌+◌, ◌-◌, ◌*◌, min, Bool, cond, ◌&&◌, ◌||◌, List, [], ◌∷◌, ◌++◌, Some, None, Option, ◌==◌, nat_le}
+use Rattle.std.specs.List.{onto_first}
 
 -- the lines of a text: a line ends at a byte 10 or at the text's end
 unfoldable pub lines : List ℕ → List (List ℕ)
 lines [] = []
-lines (b ∷ bs) = cond (b == 10) ([] ∷ lines bs) (onto b (lines bs))
-
--- how many numbers at the front of a list pass a test
-unfoldable pub front : (ℕ → Bool) → List ℕ → ℕ
-front test [] = 0
-front test (b ∷ bs) = cond (test b) (suc (front test bs)) 0
-
--- how many bytes the first line has
-abbrev pub line_end : List ℕ → ℕ
-line_end bs = front (λ b. not (b == 10)) bs
+lines (b ∷ bs) = cond (b == 10) ([] ∷ lines bs) (onto_first b (lines bs))
 
 -- blanks, tabs and carriage returns stand between words
 abbrev pub blank : ℕ → Bool
@@ -37,14 +24,6 @@ words_from word (b ∷ bs) = cond (b == 35) (ended word) (cond (blank b) (ended 
 -- the words of a line
 abbrev pub words : List ℕ → List (List ℕ)
 words line = words_from [] line
-
--- how many blanks a line begins with
-abbrev pub gap : List ℕ → ℕ
-gap bs = front blank bs
-
--- how many bytes of a word a line begins with
-abbrev pub word_end : List ℕ → ℕ
-word_end bs = front (λ b. not (blank b || b == 35)) bs
 
 abbrev pub digit : ℕ → Bool
 digit b = nat_le 48 b && nat_le b 57

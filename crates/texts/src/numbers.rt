@@ -1,8 +1,8 @@
 // The numbers of a junction that a text says, read as a junction or refused.
-ghost use Rattle.std.specs.Prelude.{◌≡◌, ◌*◌, ◌≤◌, IfOk};
+ghost use Rattle.std.specs.Prelude.{◌≡◌, IfOk};
 ghost use Rattle.texts.specs.Drafts.{sofar_of};
 ghost use Rattle.texts.specs.Sections.{told_of};
-ghost use Rattle.texts.specs.Numbers.{table_to, table_said, Numbered, Answered};
+ghost use Rattle.texts.specs.Numbers.{table_said, Numbered, Answered};
 
 use crate::drafts::{Clearing, Draft};
 use crate::sections::Section;
@@ -10,27 +10,16 @@ use crate::taking::number_said;
 use crossing::{Junction, Refusal};
 use std::alloc::{AllocError, Global};
 
-// The table for some streams, row by row.
-fn table_for(heap: Global, streams: usize, clearings: &[Clearing]) -> Result<Vec<u8>, AllocError>
-    requires { streams ≤ 12 }
-    ensures { IfOk result (λ v. v.items ≡ table_to streams clearings.now (streams * streams)) }
-{
-    let mut table = Vec::new(heap);
-    for place in 0..streams * streams {
-        let number = number_said(clearings, place / streams, place % streams);
-        table.push(number)?;
-    }
-    Ok(table)
-}
-
-// The table, or none for more streams than a junction can have.
+// The table for some streams, row by row, or none for more than a junction can have.
 fn table_of(heap: Global, streams: usize, clearings: &[Clearing]) -> Result<Vec<u8>, AllocError>
     ensures { IfOk result (λ v. v.items ≡ table_said streams clearings.now) }
 {
     if streams > 12 {
         return Ok(Vec::new(heap));
     }
-    table_for(heap, streams, clearings)
+    (0..streams * streams)
+        .map(|place| number_said(clearings, place / streams, place % streams).unwrap_or(0))
+        .collect(heap)
 }
 
 impl<'a> Draft<'a> {
@@ -44,7 +33,7 @@ impl<'a> Draft<'a> {
         Ok(Junction::read(
             cycle,
             count as u64,
-            self.figures.as_slice(),
+            self.figures.as_slice().as_flattened(),
             table.as_slice(),
         ))
     }

@@ -7,9 +7,10 @@ ghost use Rattle.texts.specs.Sections.{opened, begin_name, on_line, closed, told
 
 use crate::drafts::Draft;
 use crate::readers::Reader;
-use crate::saying::{Fault, Line, line_of, words_of};
+use crate::saying::{Fault, Line, line_of};
 use crate::sections::{Section, Stop};
-use crate::wording::cut_line;
+use crate::taking::Untaken;
+use crate::wording::{cut_line, words_of};
 use std::alloc::{AllocError, Global};
 
 // What a line says.
@@ -59,13 +60,17 @@ impl<'a> Section<'a> {
         if self.stop.is_some() {
             return Ok(());
         }
-        if let Some(fault) = self.draft.take(line)? {
-            self.stop = Some(Stop {
-                line: number,
-                fault,
-            });
+        match self.draft.take(line) {
+            Ok(()) => Ok(()),
+            Err(Untaken::Fault(fault)) => {
+                self.stop = Some(Stop {
+                    line: number,
+                    fault,
+                });
+                Ok(())
+            }
+            Err(Untaken::Memory(error)) => Err(error),
         }
-        Ok(())
     }
 
     // The line that ends it.

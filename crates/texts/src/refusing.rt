@@ -19,7 +19,7 @@ fn say_why(out: &mut Vec<u8>, section: &Section<'_>, refusal: Refusal) -> Result
         Refusal::Streams(place) => say_streams(
             out,
             draft.names.as_slice(),
-            draft.figures.as_slice(),
+            draft.figures.as_slice().as_flattened(),
             place as usize,
         ),
         Refusal::Table(place) => say_table(

@@ -1,10 +1,9 @@
 // A line of a text, by its words alone.
-ghost use Rattle.std.specs.Prelude.{◌≡◌, ◌<◌, map, IfOk};
-ghost use Rattle.texts.specs.Words.{words, number_in};
-ghost use Rattle.texts.specs.Lines.{line_in, numbered_stream, two_say, three_say, five_say, said};
+ghost use Rattle.std.specs.Prelude.{◌≡◌, map};
+ghost use Rattle.texts.specs.Words.{number_in};
+ghost use Rattle.texts.specs.Lines.{lasts, with_number, line_in, numbered_stream, three_say, said};
 
-use crate::wording::{next_word, number, same};
-use std::alloc::{AllocError, Global};
+use crate::wording::{number, same};
 
 // What is wrong with a line, in the words of the text.
 #[derive(Clone, Copy)]
@@ -38,37 +37,18 @@ pub enum Line<'a> {
     Unread(Fault<'a>),
 }
 
-// The words of a line.
-pub(crate) fn words_of<'a>(heap: Global, line: &'a [u8]) -> Result<Vec<&'a [u8]>, AllocError>
-    ensures { IfOk result (λ v. map (λ x. x.now) v.items ≡ words line.now) }
+// How long the cycle is.
+fn cycle_in<'a>(seconds: &'a [u8]) -> Line<'a>
+    ensures { said result ≡ with_number (number_in seconds.now) lasts }
 {
-    let mut all = Vec::new(heap);
-    let mut rest = line;
-    while let Some((word, after)) = next_word(rest) {
-        all.push(word)?;
-        rest = after;
-    }
-    Ok(all)
-}
-
-// A line of two words: a junction begins, or the cycle is said.
-fn two_words<'a>(first: &'a [u8], second: &'a [u8]) -> Line<'a>
-    ensures { said result ≡ two_say first.now second.now }
-{
-    if same(first, b"junction") {
-        return Line::Junction(second);
-    }
-    if !same(first, b"cycle") {
-        return Line::Unread(Fault::NoKind);
-    }
-    match number(second) {
-        Some(seconds) => Line::Cycle(seconds),
-        None => Line::Unread(Fault::NoNumber(second, b"cycle SECONDS")),
+    match number(seconds) {
+        Some(long) => Line::Cycle(long),
+        None => Line::Unread(Fault::NoNumber(seconds, b"cycle SECONDS")),
     }
 }
 
-// A line of three words: what has to be clear after the first before the last.
-fn three_words<'a>(first: &'a [u8], seconds: &'a [u8], next: &'a [u8]) -> Line<'a>
+// What has to be clear after the first before the last.
+fn pair_in<'a>(first: &'a [u8], seconds: &'a [u8], next: &'a [u8]) -> Line<'a>
     ensures { said result ≡ three_say first.now seconds.now next.now }
 {
     match number(seconds) {
@@ -90,37 +70,18 @@ fn stream_in<'a>(name: &'a [u8], least: &'a [u8], comes: &'a [u8]) -> Line<'a>
     }
 }
 
-// A line of five words: a stream.
-fn five_words<'a>(
-    name: &'a [u8],
-    second: &'a [u8],
-    least: &'a [u8],
-    fourth: &'a [u8],
-    comes: &'a [u8],
-) -> Line<'a>
-    ensures { said result ≡ five_say name.now second.now least.now fourth.now comes.now }
-{
-    if same(second, b"least") && same(fourth, b"comes") {
-        stream_in(name, least, comes)
-    } else {
-        Line::Unread(Fault::NoKind)
-    }
-}
-
 // What the words of a line say.
+#[tactic(auto, unfolding(crate::specs::Lines::line_in))]
 pub(crate) fn line_of<'a>(words: &[&'a [u8]]) -> Line<'a>
     ensures { said result ≡ line_in (map (λ x. x.now) words.now) }
 {
-    let count = words.len();
-    if count == 0 {
-        Line::Nothing
-    } else if count == 2 {
-        two_words(words[0], words[1])
-    } else if count == 3 {
-        three_words(words[0], words[1], words[2])
-    } else if count == 5 {
-        five_words(words[0], words[1], words[2], words[3], words[4])
-    } else {
-        Line::Unread(Fault::NoKind)
+    match words {
+        [] => Line::Nothing,
+        [word, name] if same(word, b"junction") => Line::Junction(name),
+        [word, seconds] if same(word, b"cycle") => cycle_in(seconds),
+        [first, seconds, next] => pair_in(first, seconds, next),
+        [name, second, least, fourth, comes] if same(second, b"least") && same(fourth, b"comes") =>
+            { stream_in(name, least, comes) }
+        _ => Line::Unread(Fault::NoKind),
     }
 }

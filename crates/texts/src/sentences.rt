@@ -141,8 +141,8 @@ pub(crate) fn say_table(
     }
     let first = place / names.len();
     let next = place % names.len();
-    let number = number_said(clearings, first, next);
-    let back = number_said(clearings, next, first);
+    let number = number_said(clearings, first, next).unwrap_or(0);
+    let back = number_said(clearings, next, first).unwrap_or(0);
     say_pair(
         out,
         name_at(names, first),

@@ -1,35 +1,56 @@
-// A line taken into what a junction's lines said so far, or what is wrong with it there.
-ghost use Rattle.std.specs.Prelude.{◌≡◌, ◌+◌, ◌<◌, map, IfOk, Some, None, vec_len, MatchBool};
+// A line taken into what a junction's lines said so far, or why it is not.
+ghost use Rattle.std.specs.Prelude.{◌≡◌, map};
 ghost use Rattle.texts.specs.Words.{capped};
 ghost use Rattle.texts.specs.Lines.{said, clears};
-ghost use Rattle.texts.specs.Drafts.{fresh, place, number_said, with_cycle, with_stream, with_pair, with_line, sofar_of, Took};
+ghost use Rattle.texts.specs.Drafts.{fresh, place, number_said, with_cycle, with_stream, with_line, sofar_of, Took};
 
 use crate::drafts::{Clearing, Draft};
 use crate::saying::{Fault, Line};
 use crate::wording::same;
-use std::alloc::{AllocError, Global};
+use std::alloc::{AllocError, AllocFailed, Global};
 
-// The place of a name among the streams', or their count.
-pub(crate) fn place_of(names: &[&[u8]], name: &[u8]) -> usize
-    ensures { result ≡ place name.now (map (λ x. x.now) names.now) }
-{
-    let mut at = 0;
-    while at < names.len() && !same(name, names[at]) {
-        at += 1;
-    }
-    at
+// Why a line is not taken.
+pub enum Untaken<'a> {
+    Fault(Fault<'a>),
+    Memory(AllocError),
 }
 
-// The table's number for two streams, in this order: 0 where nothing was said of them.
-pub(crate) fn number_said(clearings: &[Clearing], first: usize, next: usize) -> u8
+impl<'a> From<Fault<'a>> for Untaken<'a> {
+    ghost use Rattle.texts.specs.declared.taking.Untaken.TheVariants.{Fault};
+
+    ghost from_gives = { λ fault e. e ≡ Fault fault };
+
+    fn from(fault: Fault<'a>) -> Untaken<'a> {
+        Untaken::Fault(fault)
+    }
+}
+
+impl<T: Drop> From<AllocFailed<T>> for Untaken<'_> {
+    ghost use Rattle.std.specs.Prelude.{alloc_error};
+    ghost use Rattle.texts.specs.declared.taking.Untaken.TheVariants.{Memory};
+
+    ghost from_gives = { λ _ e. e ≡ Memory alloc_error };
+
+    fn from(failed: AllocFailed<T>) -> Self {
+        Untaken::Memory(failed.into())
+    }
+}
+
+// The place of a name among the streams', if it is there.
+fn place_of(names: &[&[u8]], name: &[u8]) -> Option<usize>
+    ensures { result ≡ place name.now (map (λ x. x.now) names.now) }
+{
+    names.iter().position(|&other| same(other, name))
+}
+
+// The table's number for two streams, in this order, if something was said of them.
+pub(crate) fn number_said(clearings: &[Clearing], first: usize, next: usize) -> Option<u8>
     ensures { result ≡ number_said clearings.now first next }
 {
-    for clearing in clearings {
-        if clearing.first == first && clearing.next == next {
-            return clearing.number;
-        }
-    }
-    0
+    clearings
+        .iter()
+        .find(|clearing| clearing.first == first && clearing.next == next)
+        .map(|clearing| clearing.number)
 }
 
 // A number as a byte that is held for it.
@@ -52,84 +73,61 @@ impl<'a> Draft<'a> {
         }
     }
 
-    fn take_cycle(&mut self, seconds: u64) -> Option<Fault<'a>>
+    fn take_cycle(&mut self, seconds: u64) -> Result<(), Untaken<'a>>
         ensures { Took (with_cycle (sofar_of self.old) seconds self.old.cycle) result (sofar_of self.old) (sofar_of self.new) }
     {
         if self.cycle.is_some() {
-            return Some(Fault::CycleAgain);
+            return Err(Untaken::Fault(Fault::CycleAgain));
         }
         self.cycle = Some(seconds);
-        None
+        Ok(())
     }
 
-    fn take_stream(
-        &mut self,
-        name: &'a [u8],
-        least: u64,
-        comes: u64,
-    ) -> Result<Option<Fault<'a>>, AllocError>
-        ensures { IfOk result (λ f. Took (with_stream (sofar_of self.old) name.now least comes) f (sofar_of self.old) (sofar_of self.new)) }
+    fn take_stream(&mut self, name: &'a [u8], least: u64, comes: u64) -> Result<(), Untaken<'a>>
+        ensures { Took (with_stream (sofar_of self.old) name.now least comes) result (sofar_of self.old) (sofar_of self.new) }
     {
-        if place_of(self.names.as_slice(), name) < self.names.len() {
-            return Ok(Some(Fault::StreamAgain(name)));
+        if place_of(self.names.as_slice(), name).is_some() {
+            return Err(Untaken::Fault(Fault::StreamAgain(name)));
         }
         self.names.push(name)?;
-        self.figures.extend_from_slice(&[byte(least), byte(comes)])?;
-        Ok(None)
+        self.figures.push([byte(least), byte(comes)])?;
+        Ok(())
     }
 
-    // Two streams by their places, which are known.
-    fn take_places(&mut self, first: usize, next: usize, seconds: u64) -> Result<bool, AllocError>
-        requires { (first < vec_len self.old.names) × (next < vec_len self.old.names) }
-        ensures { IfOk result (λ taken. MatchBool taken (with_pair (sofar_of self.old) first next seconds ≡ Some (sofar_of self.new)) ((with_pair (sofar_of self.old) first next seconds ≡ None) × (sofar_of self.new ≡ sofar_of self.old))) }
-    {
-        if number_said(self.clearings.as_slice(), first, next) > 0 {
-            return Ok(false);
-        }
-        let number = byte(seconds.min(254)) + 1;
-        self.clearings.push(Clearing {
-            first,
-            next,
-            number,
-        })?;
-        Ok(true)
-    }
-
-    // Two streams by their names.
+    // What has to be clear between two streams, by their names.
     fn take_pair(
         &mut self,
         first: &'a [u8],
         seconds: u64,
         next: &'a [u8],
-    ) -> Result<Option<Fault<'a>>, AllocError>
-        ensures { IfOk result (λ f. Took (with_line (sofar_of self.old) (clears first.now seconds next.now)) f (sofar_of self.old) (sofar_of self.new)) }
+    ) -> Result<(), Untaken<'a>>
+        ensures { Took (with_line (sofar_of self.old) (clears first.now seconds next.now)) result (sofar_of self.old) (sofar_of self.new) }
     {
-        let one = place_of(self.names.as_slice(), first);
-        if one >= self.names.len() {
-            return Ok(Some(Fault::NoStream(first)));
+        let names = self.names.as_slice();
+        let one = place_of(names, first).ok_or(Fault::NoStream(first))?;
+        let other = place_of(names, next).ok_or(Fault::NoStream(next))?;
+        if number_said(self.clearings.as_slice(), one, other).is_some() {
+            return Err(Untaken::Fault(Fault::PairAgain(first, next)));
         }
-        let other = place_of(self.names.as_slice(), next);
-        if other >= self.names.len() {
-            return Ok(Some(Fault::NoStream(next)));
-        }
-        if self.take_places(one, other, seconds)? {
-            Ok(None)
-        } else {
-            Ok(Some(Fault::PairAgain(first, next)))
-        }
+        self.clearings.push(Clearing {
+            first: one,
+            next: other,
+            number: byte(seconds.min(254)) + 1,
+        })?;
+        Ok(())
     }
 
-    // A line of the junction: what is wrong with it, if anything is.
-    pub(crate) fn take(&mut self, line: Line<'a>) -> Result<Option<Fault<'a>>, AllocError>
-        ensures { IfOk result (λ f. Took (with_line (sofar_of self.old) (said line.entry)) f (sofar_of self.old) (sofar_of self.new)) }
+    // A line of the junction.
+    pub(crate) fn take(&mut self, line: Line<'a>) -> Result<(), Untaken<'a>>
+        ensures { Took (with_line (sofar_of self.old) (said line.entry)) result (sofar_of self.old) (sofar_of self.new) }
     {
         match line {
-            Line::Nothing => Ok(None),
-            Line::Junction(_) => Ok(Some(Fault::NoKind)),
-            Line::Cycle(seconds) => Ok(self.take_cycle(seconds)),
+            Line::Nothing => Ok(()),
+            Line::Junction(_) => Err(Untaken::Fault(Fault::NoKind)),
+            Line::Cycle(seconds) => self.take_cycle(seconds),
             Line::Stream(name, least, comes) => self.take_stream(name, least, comes),
             Line::Pair(first, seconds, next) => self.take_pair(first, seconds, next),
-            Line::Unread(fault) => Ok(Some(fault)),
+            Line::Unread(fault) => Err(Untaken::Fault(fault)),
         }
     }
 }

@@ -1,19 +1,21 @@
-// A text cut into lines, a line into words, and numbers read from words.
-ghost use Rattle.std.specs.Prelude.{◌≡◌, ◌+◌, ◌-◌, ◌^◌, ◌<◌, ◌≤◌, [], ◌∷◌, length, MatchOption};
+// A text cut into lines, a line into words, and numbers read from words. Words are bytes and no `str`: a file may hold any bytes, and a name is printed as it stands.
+ghost use Rattle.std.specs.Prelude.{◌≡◌, ◌==◌, ◌-◌, ◌^◌, ◌<◌, ◌∷◌, length, map, IfOk};
 ghost use Rattle.std.specs.Option.{option_map};
+ghost use Rattle.std.specs.List.{before_first, after_first};
 ghost use Rattle.std.specs.Str.{bytes_eq};
-ghost use Rattle.texts.specs.Words.{blank, lines, line_end, words, gap, word_end, number_in, capped};
+ghost use Rattle.texts.specs.Words.{blank, lines, words, number_in, capped};
 
-// How many bytes the first line has.
-fn line_end(text: &[u8]) -> usize
-    ensures is { result ≡ line_end text.now }
-    ensures within { result ≤ length text.now }
+use std::alloc::{AllocError, Global};
+
+// The bytes before the first `end`, and those after it.
+fn cut_at(bytes: &[u8], end: u8) -> (&[u8], &[u8])
+    ensures before { result.0.now ≡ before_first (λ b. b == end) bytes.now }
+    ensures after { result.1.now ≡ after_first (λ b. b == end) bytes.now }
 {
-    let mut end = 0;
-    while end < text.len() && text[end] != 10 {
-        end += 1;
+    match bytes.iter().position(|&byte| byte == end) {
+        Some(at) => (&bytes[..at], &bytes[at + 1..]),
+        None => (bytes, b""),
     }
-    end
 }
 
 // The first line of a text, and what follows it.
@@ -21,59 +23,27 @@ pub(crate) fn cut_line(text: &[u8]) -> (&[u8], &[u8])
     ensures first { 0 < length text.now → lines text.now ≡ result.0.now ∷ lines result.1.now }
     ensures less { 0 < length text.now → length result.1.now < length text.now }
 {
-    let end = line_end(text);
-    if end < text.len() {
-        (&text[..end], &text[end + 1..])
-    } else {
-        (text, &text[end..])
-    }
+    cut_at(text, b'\n')
 }
 
 // Whether a byte stands between words.
 fn is_blank(byte: u8) -> bool
     ensures { result ≡ blank byte }
 {
-    byte == 32 || byte == 9 || byte == 13
+    matches!(byte, b' ' | b'\t' | b'\r')
 }
 
-// How many blanks a line begins with.
-fn blanks(line: &[u8]) -> usize
-    ensures is { result ≡ gap line.now }
-    ensures within { result ≤ length line.now }
+// The words of a line.
+pub(crate) fn words_of<'a>(heap: Global, line: &'a [u8]) -> Result<Vec<&'a [u8]>, AllocError>
+    ensures { IfOk result (λ v. map (λ x. x.now) v.items ≡ words line.now) }
 {
-    let mut count = 0;
-    while count < line.len() && is_blank(line[count]) {
-        count += 1;
-    }
-    count
+    let (said, _) = cut_at(line, b'#');
+    said.split(|&byte| is_blank(byte))
+        .filter(|word| !word.is_empty())
+        .collect(heap)
 }
 
-// How many bytes of a word a line begins with.
-fn word_end(line: &[u8]) -> usize
-    ensures is { result ≡ word_end line.now }
-    ensures within { result ≤ length line.now }
-{
-    let mut end = 0;
-    while end < line.len() && !is_blank(line[end]) && line[end] != 35 {
-        end += 1;
-    }
-    end
-}
-
-// The first word of a line, and what follows it.
-pub(crate) fn next_word(line: &[u8]) -> Option<(&[u8], &[u8])>
-    ensures { MatchOption result (words line.now ≡ []) (λ p. (words line.now ≡ p.0.now ∷ words p.1.now) × (length p.1.now < length line.now)) }
-{
-    let rest = &line[blanks(line)..];
-    let end = word_end(rest);
-    if end == 0 {
-        None
-    } else {
-        Some((&rest[..end], &rest[end..]))
-    }
-}
-
-// Whether two words are the same.
+// Whether two words are the same: `==` would take no byte string, which is an array, beside a slice.
 pub(crate) fn same(one: &[u8], other: &[u8]) -> bool
     ensures { result ≡ bytes_eq one.now other.now }
 {
@@ -88,11 +58,13 @@ pub(crate) fn number(word: &[u8]) -> Option<u64>
         return None;
     }
     let mut sum: u64 = 0;
-    for b in word {
-        if *b < 48 || *b > 57 {
+    for &byte in word {
+        if !byte.is_ascii_digit() {
             return None;
         }
-        sum = sum.saturating_mul(10).saturating_add(u64::from(*b - 48));
+        sum = sum
+            .saturating_mul(10)
+            .saturating_add(u64::from(byte - b'0'));
     }
     Some(sum)
 }
