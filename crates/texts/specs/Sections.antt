@@ -1,8 +1,8 @@
 -- What a whole text says: its junctions, one after the other. Assumes nothing: these are definitions.
 use Rattle.std.specs.Prelude.{ℕ, ◌+◌, Bool, true, false, cond, ◌||◌, List, [], ◌∷◌, is_some, Some, None, Option}
 use Rattle.std.specs.Option.{option_map}
-use Rattle.texts.specs.declared.sections.Stop.{Stop}
 use Rattle.texts.specs.declared.sections.Section.{Section}
+use Rattle.texts.specs.declared.readers.Rest.{Rest}
 use Rattle.texts.specs.declared.readers.Reader.{Reader}
 use Rattle.texts.specs.Words.{lines, words}
 use Rattle.texts.specs.Lines.{Said, nothing, begins, lasts, stream, clears, unread, line_in}
@@ -74,13 +74,17 @@ abbrev pub told_in : List ℕ → List Told
 told_in text = told_from 0 false (opened None) (lines text)
 
 -- what a section holds
-abbrev pub stop_line : Option Stop → Option ℕ
-stop_line None = None
-stop_line (Some s) = Some s.line
-
 abbrev pub told_of : Section → Told
-told_of s = record { name = option_map (λ x. x.now) s.name; said = sofar_of s.draft; stop = stop_line s.stop }
+told_of s = record { name = option_map (λ x. x.now) s.name; said = sofar_of s.draft; stop = option_map (λ stop. stop.line) s.stop }
+
+-- the junctions that are read from a line of a text on
+abbrev pub told_after : Rest → List Told
+told_after r = told_from r.line (is_some r.name) (opened (option_map (λ x. x.now) r.name)) (lines r.text.now)
 
 -- the junctions that a reader has yet to give
+abbrev pub left_at : Option Rest → List Told
+left_at None = []
+left_at (Some r) = told_after r
+
 abbrev pub left_of : Reader → List Told
-left_of r = cond r.open (told_from r.line (is_some r.name) (opened (option_map (λ x. x.now) r.name)) (lines r.rest.now)) []
+left_of r = left_at r.rest

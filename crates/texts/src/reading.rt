@@ -3,10 +3,10 @@ ghost use Rattle.std.specs.Prelude.{◌≡◌, ◌+◌, ◌<◌, [], ◌∷◌, 
 ghost use Rattle.std.specs.Option.{option_map};
 ghost use Rattle.texts.specs.Words.{words};
 ghost use Rattle.texts.specs.Lines.{said, line_in};
-ghost use Rattle.texts.specs.Sections.{opened, begin_name, on_line, closed, told_in, told_of, left_of, says};
+ghost use Rattle.texts.specs.Sections.{opened, on_line, closed, told_in, told_of, told_after, left_at, left_of};
 
 use crate::drafts::Draft;
-use crate::readers::Reader;
+use crate::readers::{Reader, Rest};
 use crate::saying::{Fault, Line, line_of};
 use crate::sections::{Section, Stop};
 use crate::taking::Untaken;
@@ -19,26 +19,6 @@ fn read_line<'a>(heap: Global, line: &'a [u8]) -> Result<Line<'a>, AllocError>
 {
     let words = words_of(heap, line)?;
     Ok(line_of(words.as_slice()))
-}
-
-// Whether a line says anything.
-fn says_something(line: Line<'_>) -> bool
-    ensures { result ≡ says (said line.entry) }
-{
-    match line {
-        Line::Nothing => false,
-        _ => true,
-    }
-}
-
-// The name of the junction that a line begins, if it begins one.
-fn name_begun<'a>(line: Line<'a>) -> Option<&'a [u8]>
-    ensures { option_map (λ x. x.now) result ≡ begin_name (said line.entry) }
-{
-    match line {
-        Line::Junction(name) => Some(name),
-        _ => None,
-    }
 }
 
 impl<'a> Section<'a> {
@@ -73,17 +53,52 @@ impl<'a> Section<'a> {
         }
     }
 
-    // The line that ends it.
-    fn close(&mut self, number: u64)
-        ensures { told_of self.new ≡ closed number (told_of self.old) }
+    // The junction as it is at the line that ends it.
+    fn closed(mut self, number: u64) -> Section<'a>
+        ensures { told_of result ≡ closed number (told_of self.entry) }
     {
-        let cycle = self.draft.cycle;
-        if self.stop.is_none() && cycle.is_none() {
-            self.stop = Some(Stop {
+        if self.draft.cycle.is_none() {
+            self.stop.get_or_insert(Stop {
                 line: number,
                 fault: Fault::NoCycle,
             });
         }
+        self
+    }
+}
+
+impl<'a> Rest<'a> {
+    // The next junction, and what is left after it.
+    fn section(self, heap: Global) -> Result<(Section<'a>, Option<Rest<'a>>), AllocError>
+        ensures { IfOk result (λ p. told_after self.entry ≡ told_of p.0 ∷ left_at p.1) }
+    {
+        let mut section = self.name.map(|name| Section::begin(heap, Some(name)));
+        let mut text = self.text;
+        let mut number = self.line;
+        while !text.is_empty() {
+            let (first, after) = cut_line(text);
+            match read_line(heap, first)? {
+                Line::Nothing => {}
+                Line::Junction(name) => {
+                    if let Some(whole) = section {
+                        let rest = Rest {
+                            text: after,
+                            line: number + 1,
+                            name: Some(name),
+                        };
+                        return Ok((whole.closed(number), Some(rest)));
+                    }
+                    section = Some(Section::begin(heap, Some(name)));
+                }
+                line => section
+                    .get_or_insert(Section::begin(heap, None))
+                    .take(number, line)?,
+            }
+            text = after;
+            number += 1;
+        }
+        let whole = section.unwrap_or(Section::begin(heap, None));
+        Ok((whole.closed(number), None))
     }
 }
 
@@ -93,10 +108,11 @@ impl<'a> Reader<'a> {
         ensures { left_of result ≡ told_in text.now }
     {
         Reader {
-            rest: text,
-            line: 0,
-            name: None,
-            open: true,
+            rest: Some(Rest {
+                text,
+                line: 0,
+                name: None,
+            }),
         }
     }
 
@@ -104,35 +120,11 @@ impl<'a> Reader<'a> {
     pub fn next(&mut self, heap: Global) -> Result<Option<Section<'a>>, AllocError>
         ensures { IfOk result (λ o. MatchOption o (left_of self.old ≡ []) (λ s. left_of self.old ≡ told_of s ∷ left_of self.new)) }
     {
-        if !self.open {
+        let Some(rest) = self.rest else {
             return Ok(None);
-        }
-        let mut section = Section::begin(heap, self.name);
-        let mut some = self.name.is_some();
-        let mut rest = self.rest;
-        let mut number = self.line;
-        while !rest.is_empty() {
-            let (text, after) = cut_line(rest);
-            let line = read_line(heap, text)?;
-            rest = after;
-            if let Some(name) = name_begun(line) {
-                if some {
-                    section.close(number);
-                    self.rest = rest;
-                    self.line = number + 1;
-                    self.name = Some(name);
-                    return Ok(Some(section));
-                }
-                section = Section::begin(heap, Some(name));
-                some = true;
-            } else {
-                section.take(number, line)?;
-                some = some | says_something(line);
-            }
-            number += 1;
-        }
-        section.close(number);
-        self.open = false;
+        };
+        let (section, after) = rest.section(heap)?;
+        self.rest = after;
         Ok(Some(section))
     }
 }
