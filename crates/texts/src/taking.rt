@@ -10,6 +10,7 @@ use crate::wording::same;
 use std::alloc::{AllocError, AllocFailed, Global};
 
 // Why a line is not taken.
+#[derive(Clone, Copy, Debug, PartialEq, Eq)]
 pub enum Untaken<'a> {
     Fault(Fault<'a>),
     Memory(AllocError),
@@ -57,7 +58,7 @@ pub(crate) fn number_said(clearings: &[Clearing], first: usize, next: usize) -> 
 fn byte(number: u64) -> u8
     ensures { result ≡ capped 255 number }
 {
-    number.min(255) as u8
+    u8::try_from(number).unwrap_or(u8::MAX)
 }
 
 impl<'a> Draft<'a> {
