@@ -1,5 +1,5 @@
 -- A number read digit by digit. Assumes nothing.
-use Rattle.std.proofs.Common.{◌≡◌, ℕ, ◌+◌, ◌-◌, ◌*◌, ◌^◌, ◌<◌, ◌≤◌, min, true, false, cond, List, [], ◌∷◌, length, get_or, drop, Some, None, refl, arith}
+use Rattle.std.proofs.Common.{◌≡◌, ℕ, ◌+◌, ◌-◌, ◌*◌, ◌<◌, ◌≤◌, true, false, cond, List, [], ◌∷◌, length, get_or, drop, Some, None, refl, arith}
 use Rattle.std.proofs.lemmas.List.{at_drop_more, at_drop_all}
 use Rattle.texts.specs.Words.{digit, digits_in, number_in}
 
@@ -24,7 +24,3 @@ module _ (bs : List ℕ) (i v : ℕ) (within : i < length bs) where
 pub digits_all : (bs : List ℕ) (i v : ℕ) → length bs ≤ i → digits_in v (drop i bs) ≡ Some v
 unfolding digits_in
 digits_all bs i v past = at_drop_all (digits_in v) bs i past
-
--- one digit more, as the machine adds it
-pub capped_more : (sum v d : ℕ) → sum ≡ min (2 ^ 64 - 1) v → min (2 ^ 64 - 1) (min (2 ^ 64 - 1) (sum * 10) + d) ≡ min (2 ^ 64 - 1) (v * 10 + d)
-capped_more sum v d is = omega (arith, is)

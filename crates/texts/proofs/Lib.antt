@@ -5,7 +5,6 @@ pub mod Named
 pub mod Backwards
 pub mod Spelled
 pub mod Puts
-pub mod SameNumbers
 pub mod Tells
 pub mod Says
 pub mod Extends

@@ -29,6 +29,7 @@ impl<'a> Draft<'a> {
     {
         let count = self.names.len();
         let table = table_of(heap, count, self.clearings.as_slice())?;
+        // With no cycle a section is stopped, and not read.
         let cycle = self.cycle.unwrap_or(0);
         Ok(Junction::read(
             cycle,

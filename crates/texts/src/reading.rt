@@ -116,7 +116,7 @@ impl<'a> Reader<'a> {
         }
     }
 
-    // The next junction of the text, if one is to come.
+    // The next junction of the text, if one is to come. This is no `Iterator`: the heap is lent at each call, and after one that fails the same junction can be asked for again.
     pub fn next(&mut self, heap: Global) -> Result<Option<Section<'a>>, AllocError>
         ensures { IfOk result (λ o. MatchOption o (left_of self.old ≡ []) (λ s. left_of self.old ≡ told_of s ∷ left_of self.new)) }
     {

@@ -1,11 +1,8 @@
-use Rattle.std.proofs.Common.{◌+◌, ◌-◌, ◌*◌, ◌^◌, get_or, sym, ap, ◌∙◌, arith, false-eqb}
+use Rattle.std.proofs.Common.{◌+◌, ◌-◌, ◌*◌, ◌^◌, get_or, sym, ap, ◌∙◌, arith}
 use Rattle.std.specs.Option.{option_map}
 use Rattle.texts.specs.Words.{capped}
-use Rattle.texts.proofs.Figures.{number_some, digits_more, digits_stop, digits_all}
+use Rattle.texts.proofs.Figures.{digits_more, digits_stop, digits_all}
 use Rattle.texts.proofs.wording.number.Goals as goal
-
-pub loop-byte-init : goal.loop-byte-init
-loop-byte-init c = (0, omega arith, number_some c.args.word.now (omega (arith, false-eqb _ _ c.if-is_empty.ensures)))
 
 pub returns-then-not-is_ascii_digit : goal.returns-then-not-is_ascii_digit
 returns-then-not-is_ascii_digit c =
