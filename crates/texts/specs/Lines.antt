@@ -1,8 +1,9 @@
 -- What a line says, by its words alone. Assumes nothing: these are definitions.
-use Rattle.std.specs.Prelude.{ℕ, ◌-◌, ◌^◌, cond, ◌&&◌, List, [], ◌∷◌, Some, None, codes, Option}
+use Rattle.std.specs.Prelude.{ℕ, ◌-◌, ◌^◌, cond, ◌&&◌, List, [], ◌∷◌, Some, None, Ok, Err, codes, Option, Result}
 use Rattle.std.specs.Str.{bytes_eq}
+use Rattle.texts.specs.declared.saying.Fault.{Fault}
 use Rattle.texts.specs.declared.saying.Line.{Line}
-use Rattle.texts.specs.declared.saying.Line.TheVariants.{Nothing, Junction, Cycle, Stream, Pair, Unread}
+use Rattle.texts.specs.declared.saying.Line.TheVariants.{Nothing, Junction, Cycle, Stream, Pair}
 use Rattle.texts.specs.Words.{number_in, capped}
 
 -- what a line can say
@@ -62,4 +63,8 @@ said (Junction name) = begins name.now
 said (Cycle seconds) = lasts seconds
 said (Stream name least comes) = stream name.now least comes
 said (Pair first seconds next) = clears first.now seconds next.now
-said (Unread fault) = unread
+
+-- the same, and of a line at fault
+abbrev pub line_said : Result Line Fault → Said
+line_said (Ok line) = said line
+line_said (Err fault) = unread

@@ -2,8 +2,8 @@
 ghost use Rattle.std.specs.Prelude.{◌≡◌, ◌+◌, ◌<◌, [], ◌∷◌, IfOk, MatchOption, OnOk};
 ghost use Rattle.std.specs.Option.{option_map};
 ghost use Rattle.texts.specs.Words.{words};
-ghost use Rattle.texts.specs.Lines.{said, line_in};
-ghost use Rattle.texts.specs.Sections.{opened, on_line, closed, told_in, told_of, told_after, left_at, left_of};
+ghost use Rattle.texts.specs.Lines.{line_said, line_in};
+ghost use Rattle.texts.specs.Sections.{opened, begin_name, says, on_line, closed, told_in, told_of, told_after, left_at, left_of};
 
 use crate::drafts::Draft;
 use crate::readers::{Reader, Rest};
@@ -13,12 +13,29 @@ use crate::taking::Untaken;
 use crate::wording::{cut_line, words_of};
 use std::alloc::{AllocError, Global};
 
-// What a line says.
-fn read_line<'a>(heap: Global, line: &'a [u8]) -> Result<Line<'a>, AllocError>
-    ensures { IfOk result (λ l. said l ≡ line_in (words line.now)) }
+// What a line says, or what is wrong with it.
+fn read_line<'a>(heap: Global, line: &'a [u8]) -> Result<Result<Line<'a>, Fault<'a>>, AllocError>
+    ensures { IfOk result (λ l. line_said l ≡ line_in (words line.now)) }
 {
     let words = words_of(heap, line)?;
     Ok(line_of(words.as_slice()))
+}
+
+// The name of the junction that a line begins, if it begins one.
+fn name_begun<'a>(line: Result<Line<'a>, Fault<'a>>) -> Option<&'a [u8]>
+    ensures { option_map (λ x. x.now) result ≡ begin_name (line_said line.entry) }
+{
+    match line {
+        Ok(Line::Junction(name)) => Some(name),
+        _ => None,
+    }
+}
+
+// Whether a line says anything.
+fn says_something(line: Result<Line<'_>, Fault<'_>>) -> bool
+    ensures { result ≡ says (line_said line.entry) }
+{
+    !matches!(line, Ok(Line::Nothing))
 }
 
 impl<'a> Section<'a> {
@@ -34,8 +51,8 @@ impl<'a> Section<'a> {
     }
 
     // A line more.
-    fn take(&mut self, number: u64, line: Line<'a>) -> Result<(), AllocError>
-        ensures { OnOk result (told_of self.new ≡ on_line number (said line.entry) (told_of self.old)) }
+    fn take(&mut self, number: u64, line: Result<Line<'a>, Fault<'a>>) -> Result<(), AllocError>
+        ensures { OnOk result (told_of self.new ≡ on_line number (line_said line.entry) (told_of self.old)) }
     {
         if self.stop.is_some() {
             return Ok(());
@@ -77,22 +94,21 @@ impl<'a> Rest<'a> {
         let mut number = self.line;
         while !text.is_empty() {
             let (first, after) = cut_line(text);
-            match read_line(heap, first)? {
-                Line::Nothing => {}
-                Line::Junction(name) => {
-                    if let Some(whole) = section {
-                        let rest = Rest {
-                            text: after,
-                            line: number + 1,
-                            name: Some(name),
-                        };
-                        return Ok((whole.closed(number), Some(rest)));
-                    }
-                    section = Some(Section::begin(heap, Some(name)));
+            let line = read_line(heap, first)?;
+            if let Some(name) = name_begun(line) {
+                if let Some(whole) = section {
+                    let rest = Rest {
+                        text: after,
+                        line: number + 1,
+                        name: Some(name),
+                    };
+                    return Ok((whole.closed(number), Some(rest)));
                 }
-                line => section
+                section = Some(Section::begin(heap, Some(name)));
+            } else if says_something(line) {
+                section
                     .get_or_insert(Section::begin(heap, None))
-                    .take(number, line)?,
+                    .take(number, line)?;
             }
             text = after;
             number += 1;

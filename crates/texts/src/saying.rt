@@ -1,7 +1,7 @@
 // A line of a text, by its words alone.
 ghost use Rattle.std.specs.Prelude.{◌≡◌, map};
 ghost use Rattle.texts.specs.Words.{number_in};
-ghost use Rattle.texts.specs.Lines.{lasts, with_number, line_in, numbered_stream, three_say, said};
+ghost use Rattle.texts.specs.Lines.{lasts, with_number, line_in, numbered_stream, three_say, line_said};
 
 use crate::wording::{number, same};
 
@@ -24,7 +24,7 @@ pub enum Fault<'a> {
     NoCycle,
 }
 
-// What a line says.
+// What a line says, where nothing is wrong with it.
 #[derive(Clone, Copy, Debug, PartialEq, Eq)]
 pub enum Line<'a> {
     Nothing,
@@ -34,54 +34,46 @@ pub enum Line<'a> {
     Stream(&'a [u8], u64, u64),
     // What has to be clear after the first before the last.
     Pair(&'a [u8], u64, &'a [u8]),
-    Unread(Fault<'a>),
 }
 
 // How long the cycle is.
-fn cycle_in<'a>(seconds: &'a [u8]) -> Line<'a>
-    ensures { said result ≡ with_number (number_in seconds.now) lasts }
+fn cycle_in<'a>(seconds: &'a [u8]) -> Result<Line<'a>, Fault<'a>>
+    ensures { line_said result ≡ with_number (number_in seconds.now) lasts }
 {
-    match number(seconds) {
-        Some(long) => Line::Cycle(long),
-        None => Line::Unread(Fault::NoNumber(seconds, b"cycle SECONDS")),
-    }
+    let long = number(seconds).ok_or(Fault::NoNumber(seconds, b"cycle SECONDS"))?;
+    Ok(Line::Cycle(long))
 }
 
 // What has to be clear after the first before the last.
-fn pair_in<'a>(first: &'a [u8], seconds: &'a [u8], next: &'a [u8]) -> Line<'a>
-    ensures { said result ≡ three_say first.now seconds.now next.now }
+fn pair_in<'a>(first: &'a [u8], seconds: &'a [u8], next: &'a [u8]) -> Result<Line<'a>, Fault<'a>>
+    ensures { line_said result ≡ three_say first.now seconds.now next.now }
 {
-    match number(seconds) {
-        Some(clear) => Line::Pair(first, clear, next),
-        None => Line::Unread(Fault::NoNumber(seconds, b"NAME SECONDS NAME")),
-    }
+    let clear = number(seconds).ok_or(Fault::NoNumber(seconds, b"NAME SECONDS NAME"))?;
+    Ok(Line::Pair(first, clear, next))
 }
 
 // A stream, from its name and the words that have to be numbers.
-fn stream_in<'a>(name: &'a [u8], least: &'a [u8], comes: &'a [u8]) -> Line<'a>
-    ensures { said result ≡ numbered_stream name.now (number_in least.now) (number_in comes.now) }
+fn stream_in<'a>(name: &'a [u8], least: &'a [u8], comes: &'a [u8]) -> Result<Line<'a>, Fault<'a>>
+    ensures { line_said result ≡ numbered_stream name.now (number_in least.now) (number_in comes.now) }
 {
-    let Some(long) = number(least) else {
-        return Line::Unread(Fault::NoNumber(least, b"NAME least SECONDS comes COUNT"));
-    };
-    match number(comes) {
-        Some(many) => Line::Stream(name, long, many),
-        None => Line::Unread(Fault::NoNumber(comes, b"NAME least SECONDS comes COUNT")),
-    }
+    let form = b"NAME least SECONDS comes COUNT";
+    let long = number(least).ok_or(Fault::NoNumber(least, form))?;
+    let many = number(comes).ok_or(Fault::NoNumber(comes, form))?;
+    Ok(Line::Stream(name, long, many))
 }
 
-// What the words of a line say.
+// What the words of a line say, or what is wrong with it.
 #[tactic(auto, unfolding(crate::specs::Lines::line_in))]
-pub(crate) fn line_of<'a>(words: &[&'a [u8]]) -> Line<'a>
-    ensures { said result ≡ line_in (map (λ x. x.now) words.now) }
+pub(crate) fn line_of<'a>(words: &[&'a [u8]]) -> Result<Line<'a>, Fault<'a>>
+    ensures { line_said result ≡ line_in (map (λ x. x.now) words.now) }
 {
     match words {
-        [] => Line::Nothing,
-        [word, name] if same(word, b"junction") => Line::Junction(name),
+        [] => Ok(Line::Nothing),
+        [word, name] if same(word, b"junction") => Ok(Line::Junction(name)),
         [word, seconds] if same(word, b"cycle") => cycle_in(seconds),
         [first, seconds, next] => pair_in(first, seconds, next),
         [name, second, least, fourth, comes] if same(second, b"least") && same(fourth, b"comes") =>
             { stream_in(name, least, comes) }
-        _ => Line::Unread(Fault::NoKind),
+        _ => Err(Fault::NoKind),
     }
 }

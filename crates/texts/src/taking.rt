@@ -1,7 +1,7 @@
 // A line taken into what a junction's lines said so far, or why it is not.
 ghost use Rattle.std.specs.Prelude.{◌≡◌, map};
 ghost use Rattle.texts.specs.Words.{capped};
-ghost use Rattle.texts.specs.Lines.{said, clears};
+ghost use Rattle.texts.specs.Lines.{line_said, clears};
 ghost use Rattle.texts.specs.Drafts.{fresh, place, number_said, with_cycle, with_stream, with_line, sofar_of, Took};
 
 use crate::drafts::{Clearing, Draft};
@@ -119,16 +119,15 @@ impl<'a> Draft<'a> {
     }
 
     // A line of the junction.
-    pub(crate) fn take(&mut self, line: Line<'a>) -> Result<(), Untaken<'a>>
-        ensures { Took (with_line (sofar_of self.old) (said line.entry)) result (sofar_of self.old) (sofar_of self.new) }
+    pub(crate) fn take(&mut self, line: Result<Line<'a>, Fault<'a>>) -> Result<(), Untaken<'a>>
+        ensures { Took (with_line (sofar_of self.old) (line_said line.entry)) result (sofar_of self.old) (sofar_of self.new) }
     {
-        match line {
+        match line? {
             Line::Nothing => Ok(()),
             Line::Junction(_) => Err(Untaken::Fault(Fault::NoKind)),
             Line::Cycle(seconds) => self.take_cycle(seconds),
             Line::Stream(name, least, comes) => self.take_stream(name, least, comes),
             Line::Pair(first, seconds, next) => self.take_pair(first, seconds, next),
-            Line::Unread(fault) => Err(Untaken::Fault(fault)),
         }
     }
 }
