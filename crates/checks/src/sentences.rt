@@ -11,7 +11,7 @@ fn refusal_line(heap: Global, text: &[u8]) -> Result<Vec<u8>, Fail> {
         return Err(Fail::new("no junction"));
     };
     if let Err(refusal) = section.junction(heap)? {
-        put_refusal(heap, &mut out, &section, refusal)?;
+        put_refusal(&mut out, &section, refusal)?;
     }
     Ok(out)
 }

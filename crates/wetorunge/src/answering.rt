@@ -15,7 +15,7 @@ use std::alloc::{AllocError, Global};
 use texts::{Reader, Section, put_answer, put_none, put_refusal, put_rings};
 
 // What is printed for a text, and whether a junction of it was refused.
-#[derive(Drop)]
+#[derive(Debug, PartialEq, Eq, Drop)]
 pub struct Answer {
     pub bytes: Vec<u8>,
     pub refused: bool,
@@ -23,7 +23,6 @@ pub struct Answer {
 
 // The rings of a plan, if they are asked for.
 fn put_drawn(
-    heap: Global,
     out: &mut Vec<u8>,
     cycle: Cycle,
     names: &[&[u8]],
@@ -33,7 +32,7 @@ fn put_drawn(
     ensures { OnOk result (Adds out.old.items out.new.items (if drawn then rings cycle.seconds (map (λ x. x.now) names.now) (green_of plan.now.greens) else [])) }
 {
     if drawn {
-        put_rings(heap, out, cycle, names, plan)
+        put_rings(out, cycle, names, plan)
     } else {
         Ok(())
     }
@@ -41,7 +40,6 @@ fn put_drawn(
 
 // The line for a plan that was found, and its rings.
 fn put_found(
-    heap: Global,
     out: &mut Vec<u8>,
     section: &Section<'_>,
     junction: &Junction,
@@ -52,27 +50,17 @@ fn put_found(
     ensures { OnOk result (Planned (told_of section.now) drawn junction.now out.old.items out.new.items) }
 {
     put_answer(
-        heap,
         out,
         section.name(),
         section.names(),
         &found.plan,
         found.spare,
     )?;
-    put_drawn(
-        heap,
-        out,
-        junction.cycle(),
-        section.names(),
-        &found.plan,
-        drawn,
-    )?;
-    Ok(())
+    put_drawn(out, junction.cycle(), section.names(), &found.plan, drawn)
 }
 
 // The line for a junction that was taken, and its rings.
 fn put_taken(
-    heap: Global,
     out: &mut Vec<u8>,
     section: &Section<'_>,
     junction: &Junction,
@@ -82,26 +70,21 @@ fn put_taken(
 {
     match best(junction) {
         None => put_none(out, section.name()),
-        Some(found) => put_found(heap, out, section, junction, found, drawn),
+        Some(found) => put_found(out, section, junction, found, drawn),
     }
 }
 
 // What is printed for a junction of the text; true where it is refused.
-fn put_section(
-    heap: Global,
-    out: &mut Vec<u8>,
-    section: &Section<'_>,
-    drawn: bool,
-) -> Result<bool, AllocError>
+fn put_section(out: &mut Vec<u8>, section: &Section<'_>, drawn: bool) -> Result<bool, AllocError>
     ensures { IfOk result (λ refused. Printed (told_of section.now) drawn out.old.items out.new.items refused) }
 {
-    match section.junction(heap)? {
+    match section.junction(*out.allocator())? {
         Err(refusal) => {
-            put_refusal(heap, out, section, refusal)?;
+            put_refusal(out, section, refusal)?;
             Ok(true)
         }
         Ok(junction) => {
-            put_taken(heap, out, section, &junction, drawn)?;
+            put_taken(out, section, &junction, drawn)?;
             Ok(false)
         }
     }
@@ -115,7 +98,7 @@ pub fn answer_all(heap: Global, text: &[u8], drawn: bool) -> Result<Answer, Allo
     let mut out = Vec::new(heap);
     let mut refused = false;
     while let Some(section) = reader.next(heap)? {
-        let one = put_section(heap, &mut out, &section, drawn)?;
+        let one = put_section(&mut out, &section, drawn)?;
         refused = refused | one;
     }
     Ok(Answer {

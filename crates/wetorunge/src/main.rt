@@ -37,7 +37,7 @@ Status 1 if a junction was refused, 0 otherwise. docs/GUIDE.md says more.
 ";
 
 // What the words on the command line ask for.
-#[derive(Drop)]
+#[derive(Debug, Default, PartialEq, Eq, Drop)]
 struct Asked {
     help: bool,
     rings: bool,
@@ -45,11 +45,7 @@ struct Asked {
 }
 
 fn words(rt: &HostRuntime) -> anyhow::Result<Asked> {
-    let mut asked = Asked {
-        help: false,
-        rings: false,
-        file: None,
-    };
+    let mut asked = Asked::default();
     for word in env::args(rt)?.skip(1) {
         if asked.file.is_some() {
             return Err(anyhow!("one file at a time; --help says what goes"));
