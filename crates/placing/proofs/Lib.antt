@@ -6,3 +6,4 @@ pub mod Searches
 pub mod Opening
 pub mod Crowds
 pub mod Sharing
+pub mod Made

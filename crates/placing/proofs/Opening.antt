@@ -1,5 +1,5 @@
 -- From a setting to the bounds that a search begins with, and from what the search says back to the setting.
-use Rattle.std.proofs.Common.{◌≡◌, ℕ, zero, suc, ◌<◌, false, get_or, replicate, sym, refl, arith}
+use Rattle.std.proofs.Common.{◌≡◌, ℕ, zero, suc, ◌<◌, false, [], get_or, replicate, sym, refl, arith}
 use Rattle.std.proofs.lemmas.Bool.{both_ways}
 use Rattle.placing.specs.declared.room.Bounds.{Bounds}
 use Rattle.placing.specs.declared.spacing.Gaps.{Gaps}
@@ -12,10 +12,16 @@ use Rattle.placing.specs.Settings.{task_of}
 use Rattle.placing.specs.Starts.{Placed}
 use Rattle.placing.proofs.Gaps.{placed_out, placed_in}
 
-pub none_of : (n p : ℕ) → get_or (replicate n false) p false ≡ false
-none_of zero p = refl
-none_of (suc n) zero = refl
-none_of (suc n) (suc p) = none_of n p
+none_in : (n b : ℕ) → get_or (replicate n false) b false ≡ false
+none_in zero b = refl
+none_in (suc n) zero = refl
+none_in (suc n) (suc b) = none_in n b
+
+-- rows of nothing that was put before anything
+pub none_of : (n m a b : ℕ) → get_or (get_or (replicate n (replicate m false)) a []) b false ≡ false
+none_of zero m a b = refl
+none_of (suc n) m zero b = none_in m b
+none_of (suc n) m (suc a) b = none_of n m a b
 
 -- in order with the same gaps
 ordered_like :
@@ -48,7 +54,7 @@ module _ (g : Setting) (q : Gaps) (s : Bounds) (m : Measured (task_of g) q) (op 
         high = λ k h.
             let k2 : k < g.count = omega (arith, m.count) in
             omega (arith, op.high k (omega (arith, g.few)), p.window k k2, p.begins k k2);
-        order = λ a ha b hb h. absurd (both_ways (before_of s a b) (op.before _) h);
+        order = λ a ha b hb h. absurd (both_ways (before_of s a b) (op.before a b) h);
       })
 
   pub somewhere : (start : ℕ → ℕ) → Found q s start → Placed (task_of g) start

@@ -1,5 +1,6 @@
 -- One green put before another, and low bounds that are starts.
-use Rattle.std.proofs.Common.{◌≡◌, ℕ, ◌+◌, ◌*◌, ◌<◌, ◌≤◌, Bool, true, false, get_or, set, inl, inr, ⊎_elim, arith, get_or-set_other, get_or-set_same}
+use Rattle.std.proofs.Common.{◌≡◌, ℕ, ◌+◌, ◌<◌, ◌≤◌, Bool, true, false, ◌⊎◌, [], length, get_or, set, sym, ◌∙◌, inl, inr, ⊎_elim, arith, get_or-set_other, get_or-set_same}
+use Rattle.std.proofs.lemmas.List.Elements.{All-get_or}
 use Rattle.std.proofs.lemmas.Bool.{cases_eq, cases_lt, cases_Bool}
 use Rattle.placing.specs.declared.room.Bounds.{Bounds}
 use Rattle.placing.specs.declared.spacing.Gaps.{Gaps}
@@ -12,29 +13,40 @@ use Rattle.placing.proofs.Rooms.{raised_room, raised_keeps, raised_back}
 use Rattle.placing.specs.Sizes.{most_greens}
 
 module _ (q : Gaps) (s m t : Bounds) (a b to : ℕ) (ha : a < q.count) (hb : b < q.count) (upward : to ≡ low_of s a + gap_at q a b)
-    (low : t.low ≡ m.low) (high : t.high ≡ m.high) (put : t.before ≡ set m.before (a * most_greens + b) true) where
+    (low : t.low ≡ m.low) (high : t.high ≡ m.high) (put : t.before ≡ set m.before a (set (get_or m.before a []) b true)) where
+  -- a place of the table that was written
+  put_cases : (x y : ℕ) → ((x ≡ a) × (y ≡ b)) ⊎ (before_of t x y ≡ before_of m x y)
+  put_cases x y =
+      ⊎_elim
+      (λ (row : x ≡ a).
+      ⊎_elim
+      (λ (column : y ≡ b). inl (row, column))
+      (λ (other : y ≡ b → ⊥).
+      let within : a < length m.before = omega (arith, q.few, m.sized) in
+      inr (rw (put, row, get_or-set_same m.before a (set (get_or m.before a []) b true) [] within) (get_or-set_other (get_or m.before a []) b y true false other)))
+      (cases_eq y b))
+      (λ (other : x ≡ a → ⊥). inr (rw (put, get_or-set_other m.before a x (set (get_or m.before a []) b true) [] other)))
+      (cases_eq x a)
+
   -- what is before what now: a before b, and what was
   put_order :
       (start : ℕ → ℕ) → start a + gap_at q a b ≤ start b → Obeys q m start →
       (x : ℕ) → x < q.count → (y : ℕ) → y < q.count → before_of t x y ≡ true → start x + gap_at q x y ≤ start y
   put_order start first o x hx y hy h =
       ⊎_elim
-      (λ (same : x * most_greens + y ≡ a * most_greens + b).
-      let row : x ≡ a = omega (arith, q.few) in
-      let column : y ≡ b = omega (arith, q.few) in
-      rw (row, column) first)
-      (λ (other : x * most_greens + y ≡ a * most_greens + b → ⊥).
-      let h2 : get_or (set m.before (a * most_greens + b) true) (x * most_greens + y) false ≡ true = rw put at h in
-      o.order x hx y hy (rw get_or-set_other at h2))
-      (cases_eq (x * most_greens + y) (a * most_greens + b))
+      (λ (same : (x ≡ a) × (y ≡ b)). rw (same.0, same.1) first)
+      (λ (kept : before_of t x y ≡ before_of m x y). o.order x hx y hy (sym kept ∙ h))
+      (put_cases x y)
 
   put_kept : (x y : ℕ) → before_of m x y ≡ true → before_of t x y ≡ true
   put_kept x y h =
-      rw put (
       ⊎_elim
-      (λ (same : x * most_greens + y ≡ a * most_greens + b). rw same (get_or-set_same m.before (a * most_greens + b) true false (omega (arith, q.few, m.sized))))
-      (λ (other : x * most_greens + y ≡ a * most_greens + b → ⊥). rw get_or-set_other h)
-      (cases_eq (x * most_greens + y) (a * most_greens + b)))
+      (λ (same : (x ≡ a) × (y ≡ b)).
+      let row : a < length m.before = omega (arith, q.few, m.sized) in
+      let column : b < length (get_or m.before a []) = omega (arith, q.few, All-get_or (λ row. length row ≡ most_greens) m.before a [] row m.square) in
+      rw (put, same.0, same.1, get_or-set_same m.before a (set (get_or m.before a []) b true) [] row) (get_or-set_same (get_or m.before a []) b true false column))
+      (λ (kept : before_of t x y ≡ before_of m x y). kept ∙ h)
+      (put_cases x y)
 
   pub put_from : (moved : Bool) → Raised s m b to moved → Put q s t a b
   put_from moved r =

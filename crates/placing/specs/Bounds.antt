@@ -1,9 +1,8 @@
 -- Starts within bounds, and bounds made narrower. Assumes nothing: these are definitions.
-use Rattle.std.specs.Prelude.{◌≡◌, ℕ, ◌+◌, ◌-◌, ◌*◌, ◌<◌, ◌≤◌, Bool, true, false, List, [], ◌∷◌, slice_index, slice_index_or, slice_set}
+use Rattle.std.specs.Prelude.{◌≡◌, ℕ, ◌+◌, ◌-◌, ◌<◌, ◌≤◌, Bool, true, false, List, [], ◌∷◌, slice_index, slice_index_or, slice_set}
 use Rattle.placing.specs.declared.room.Bounds.{Bounds}
 use Rattle.placing.specs.declared.spacing.Gaps.{Gaps}
 use Rattle.placing.specs.Gaps.{gap_at, InOrder}
-use Rattle.placing.specs.Sizes.{most_greens}
 
 -- the first second in which a green may begin
 abbrev pub low_of : Bounds → ℕ → ℕ
@@ -15,7 +14,7 @@ high_of s k = slice_index s.high k
 
 -- a has been put before b
 abbrev pub before_of : Bounds → ℕ → ℕ → Bool
-before_of s a b = slice_index_or s.before (a * most_greens + b) false
+before_of s a b = slice_index_or (slice_index_or s.before a []) b false
 
 -- starts obey the bounds: each is within its own, and what has been put before another comes first by its gap
 pub record Obeys (q : Gaps) (s : Bounds) (start : ℕ → ℕ) : Type 0 where

@@ -1,5 +1,5 @@
 -- Greens that share the cycle, with room before and after each that is its own. Assumes nothing: these are definitions.
-use Rattle.std.specs.Prelude.{◌≡◌, ℕ, ◌+◌, ◌-◌, ◌*◌, ◌<◌, ◌≤◌, Bool, true, false, ◌⊎◌, ◌≢◌, slice_index, slice_index_or}
+use Rattle.std.specs.Prelude.{◌≡◌, ℕ, ◌+◌, ◌-◌, ◌<◌, ◌≤◌, Bool, true, false, ◌⊎◌, ◌≢◌, List, [], slice_index, slice_index_or}
 use Rattle.placing.specs.declared.room.Bounds.{Bounds}
 use Rattle.placing.specs.declared.shares.Group.{Group}
 use Rattle.placing.specs.declared.shares.Margins.{Margins}
@@ -7,7 +7,6 @@ use Rattle.placing.specs.declared.shares.Spans.{Spans}
 use Rattle.placing.specs.declared.spacing.Gaps.{Gaps}
 use Rattle.placing.specs.Gaps.{gap_at, InOrder}
 use Rattle.placing.specs.Bounds.{Obeys, Nobody}
-use Rattle.placing.specs.Sizes.{most_greens}
 
 -- by so much at least a begins before b, or before b's next turn if b comes first; by nothing for two that aren't tied
 pub record Span (q : Gaps) (s : Bounds) (a b span : ℕ) : Type 0 where
@@ -16,7 +15,7 @@ pub record Span (q : Gaps) (s : Bounds) (a b span : ℕ) : Type 0 where
 
 -- the span in row a, column b
 abbrev pub span_at : Spans → ℕ → ℕ → ℕ
-span_at d a b = slice_index d.span (a * most_greens + b)
+span_at d a b = slice_index (slice_index_or d.span a []) b
 
 -- the spans of any two greens, as far as the bounds tell
 abbrev pub Spread : Gaps → Bounds → Spans → Type 0
@@ -53,3 +52,7 @@ pub record Aheads (q : Gaps) (d : Spans) (m : Group) (out into : Margins) : Type
 -- a crowd of more than the cycle: nobody obeys
 abbrev pub Crowding : Gaps → Bounds → (total : ℕ) → Type 0
 Crowding q s total = q.cycle.seconds < total → Nobody q s
+
+-- a row of them: those from a to each
+pub record SpansFrom (q : Gaps) (s : Bounds) (a : ℕ) (row : List ℕ) : Type 0 where
+  pub each : a < q.count → (b : ℕ) → b < q.count → Span q s a b (slice_index row b)

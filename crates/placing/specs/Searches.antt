@@ -1,12 +1,12 @@
 -- One green put before another, and what a search gives. Assumes nothing: these are definitions.
-use Rattle.std.specs.Prelude.{◌≡◌, ℕ, ◌+◌, ◌-◌, ◌<◌, ◌≤◌, min, false, slice_index, slice_index_or}
+use Rattle.std.specs.Prelude.{◌≡◌, ℕ, ◌+◌, ◌-◌, ◌<◌, ◌≤◌, min, false, slice_index}
 use Rattle.placing.specs.declared.answers.Starts.{Starts}
 use Rattle.placing.specs.declared.room.Bounds.{Bounds}
 use Rattle.placing.specs.declared.spacing.Gaps.{Gaps}
 use Rattle.placing.specs.declared.settings.Setting.{Setting}
 use Rattle.placing.specs.Gaps.{gap_at}
 use Rattle.placing.specs.Orders.{Ordered}
-use Rattle.placing.specs.Bounds.{Obeys, low_of, high_of, room_of}
+use Rattle.placing.specs.Bounds.{Obeys, before_of, low_of, high_of, room_of}
 use Rattle.placing.specs.Sizes.{most_greens}
 
 -- a put before b: who obeys and has a first obeys still, and the other way round; where b's low bound was too early for that there is less room
@@ -32,4 +32,4 @@ pub record Found (q : Gaps) (s : Bounds) (start : ℕ → ℕ) : Type 0 where
 pub record Open (g : Setting) (s : Bounds) : Type 0 where
   pub low : s.low ≡ g.lowest
   pub high : (k : ℕ) → k < most_greens → high_of s k ≡ min (slice_index g.highest k) (g.cycle.seconds - 1)
-  pub before : (p : ℕ) → slice_index_or s.before p false ≡ false
+  pub before : (a b : ℕ) → before_of s a b ≡ false

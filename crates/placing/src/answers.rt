@@ -15,6 +15,6 @@ impl Starts {
     pub fn start(&self, green: usize) -> u8
         ensures { result ≡ slice_index self.now.at green }
     {
-        if green < MOST { self.at[green] } else { 0 }
+        self.at.get(green).copied().unwrap_or(0)
     }
 }

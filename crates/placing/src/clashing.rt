@@ -2,8 +2,8 @@
 ghost use Rattle.std.specs.Prelude.{◌≡◌, ℕ, ◌<◌, ◌≤◌, ◌⊎◌, Some, None, MatchOption};
 ghost use Rattle.placing.specs.Clashes.{OneFirst, Clashing};
 
+use crate::pairs::Pair;
 use crate::room::Bounds;
-use crate::sizes::MOST;
 use crate::spacing::Gaps;
 
 #[derive(Clone, Copy)]
@@ -14,29 +14,28 @@ pub struct Clash {
     room: u32,
 }
 
-// Whether two greens clash, with the one first that may begin earlier.
-fn weigh(gaps: &Gaps, bounds: &Bounds, one: usize, other: usize) -> Option<Clash>
-    requires { (one < gaps.now.count) × (other < gaps.now.count) }
-    ensures { MatchOption result (OneFirst gaps.now bounds.now one other) (λ c. Clashing gaps.now bounds.now c.first c.second) }
-{
-    let low = bounds.low[one] as u32;
-    let other_low = bounds.low[other] as u32;
-    let there = low + gaps.gap[one * MOST + other] as u32;
-    let back = other_low + gaps.gap[other * MOST + one] as u32;
-    if there <= other_low || back <= low {
-        return None;
-    }
-    let room = (bounds.high[one] as u32 + bounds.high[other] as u32).saturating_sub(there + back);
-    if low <= other_low {
+impl Pair<'_> {
+    // Whether the two clash, with the one first that may begin earlier.
+    fn weigh(&self, bounds: &Bounds) -> Option<Clash>
+        ensures { MatchOption result (OneFirst self.now.gaps.now bounds.now self.now.first self.now.second) (λ c. Clashing self.now.gaps.now bounds.now c.first c.second) }
+    {
+        let low = u32::from(bounds.low(self.first));
+        let other_low = u32::from(bounds.low(self.second));
+        let there = low + u32::from(self.gap());
+        let back = other_low + u32::from(self.turned().gap());
+        if there <= other_low || back <= low {
+            return None;
+        }
+        let high = u32::from(bounds.high(self.first)) + u32::from(bounds.high(self.second));
+        let room = high.saturating_sub(there + back);
+        let (first, second) = if low <= other_low {
+            (self.first, self.second)
+        } else {
+            (self.second, self.first)
+        };
         Some(Clash {
-            first: one,
-            second: other,
-            room,
-        })
-    } else {
-        Some(Clash {
-            first: other,
-            second: one,
+            first,
+            second,
             room,
         })
     }
@@ -45,32 +44,37 @@ fn weigh(gaps: &Gaps, bounds: &Bounds, one: usize, other: usize) -> Option<Clash
 fn tighter(one: Option<Clash>, other: Option<Clash>) -> Option<Clash>
     ensures { MatchOption result ((one ≡ None) × (other ≡ None)) (λ c. (one ≡ Some c) ⊎ (other ≡ Some c)) }
 {
-    let Some(here) = one else {
-        return other;
-    };
-    let Some(there) = other else {
-        return one;
-    };
-    if there.room < here.room { other } else { one }
+    match (one, other) {
+        (Some(here), Some(there)) if there.room < here.room => other,
+        (None, _) => other,
+        _ => one,
+    }
 }
 
-fn tightest_with(gaps: &Gaps, bounds: &Bounds, one: usize) -> Option<Clash>
-    requires { one < gaps.now.count }
-    ensures { MatchOption result ((b : ℕ) → b ≤ one → OneFirst gaps.now bounds.now one b) (λ c. Clashing gaps.now bounds.now c.first c.second) }
-{
-    let mut best = None;
-    for other in 0..one + 1 {
-        best = tighter(best, weigh(gaps, bounds, one, other));
+impl Gaps {
+    fn tightest_with(&self, bounds: &Bounds, one: usize) -> Option<Clash>
+        requires { one < self.now.count }
+        ensures { MatchOption result ((b : ℕ) → b ≤ one → OneFirst self.now bounds.now one b) (λ c. Clashing self.now bounds.now c.first c.second) }
+    {
+        let mut best = None;
+        for other in 0..one + 1 {
+            let pair = Pair {
+                gaps: self,
+                first: one,
+                second: other,
+            };
+            best = tighter(best, pair.weigh(bounds));
+        }
+        best
     }
-    best
-}
 
-pub(crate) fn tightest(gaps: &Gaps, bounds: &Bounds) -> Option<Clash>
-    ensures { MatchOption result ((a : ℕ) → a < gaps.now.count → (b : ℕ) → b ≤ a → OneFirst gaps.now bounds.now a b) (λ c. Clashing gaps.now bounds.now c.first c.second) }
-{
-    let mut best = None;
-    for one in 0..gaps.count {
-        best = tighter(best, tightest_with(gaps, bounds, one));
+    pub(crate) fn tightest(&self, bounds: &Bounds) -> Option<Clash>
+        ensures { MatchOption result ((a : ℕ) → a < self.now.count → (b : ℕ) → b ≤ a → OneFirst self.now bounds.now a b) (λ c. Clashing self.now bounds.now c.first c.second) }
+    {
+        let mut best = None;
+        for one in 0..self.count {
+            best = tighter(best, self.tightest_with(bounds, one));
+        }
+        best
     }
-    best
 }

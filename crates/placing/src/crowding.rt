@@ -2,121 +2,136 @@
 ghost use Rattle.std.specs.Prelude.{◌≡◌, ◌+◌, ◌<◌, ◌≤◌, true};
 ghost use Rattle.crossing.specs.Below.{sum_to};
 ghost use Rattle.placing.specs.Bounds.{Nobody};
-ghost use Rattle.placing.specs.Crowds.{Span, Spread, After, Afters, Ahead, Aheads, Crowding, margin_of};
-ghost use Rattle.placing.specs.Sizes.{most_greens};
+ghost use Rattle.placing.specs.Crowds.{Span, SpansFrom, Spread, After, Afters, Ahead, Aheads, Crowding, margin_of};
 
-use crate::knowing::comes_first;
+use crate::pairs::Pair;
 use crate::room::Bounds;
 use crate::shares::{Group, Margins, Spans};
-use crate::sizes::{MOST, PAIRS};
+use crate::sizes::MOST;
 use crate::spacing::Gaps;
+use std::array::from_fn;
 
-// By how much one green begins before another, or before its next turn, as far as the bounds tell.
-fn span(gaps: &Gaps, bounds: &Bounds, one: usize, other: usize) -> u32
-    requires { (one < gaps.now.count) × (other < gaps.now.count) }
-    ensures { Span gaps.now bounds.now one other result }
-{
-    let gap = gaps.gap[one * MOST + other] as u32;
-    let low = bounds.low[other] as u32;
-    let high = bounds.high[one] as u32;
-    if gap == 0 {
-        return 0;
+impl Pair<'_> {
+    // By how much the first begins before the second, or before its next turn, as far as the bounds tell.
+    fn span(&self, bounds: &Bounds) -> u32
+        ensures { Span self.now.gaps.now bounds.now self.now.first self.now.second result }
+    {
+        let gap = u32::from(self.gap());
+        if gap == 0 {
+            return 0;
+        }
+        let low = u32::from(bounds.low(self.second));
+        let high = u32::from(bounds.high(self.first));
+        if self.comes_first(bounds) {
+            return gap.max(low.saturating_sub(high));
+        }
+        if self.turned().comes_first(bounds) {
+            return gap.max((low + self.gaps.round()).saturating_sub(high));
+        }
+        gap
     }
-    if comes_first(gaps, bounds, one, other) {
-        return gap.max(low.saturating_sub(high));
-    }
-    if comes_first(gaps, bounds, other, one) {
-        return gap.max((low + gaps.cycle.seconds() as u32).saturating_sub(high));
-    }
-    gap
 }
 
-pub(crate) fn spread(gaps: &Gaps, bounds: &Bounds) -> Spans
-    ensures { Spread gaps.now bounds.now result }
-{
-    let mut spans = [0; PAIRS];
-    for place in 0..gaps.count * MOST {
-        let other = place % MOST;
-        if other < gaps.count {
-            spans[place] = span(gaps, bounds, place / MOST, other);
+impl Gaps {
+    // The span from one green to another; 0 past the last.
+    fn span(&self, bounds: &Bounds, first: usize, second: usize) -> u32
+        ensures { first < self.now.count → second < self.now.count → Span self.now bounds.now first second result }
+    {
+        match self.pair(first, second) {
+            Some(pair) => pair.span(bounds),
+            None => 0,
         }
     }
-    Spans { span: spans }
-}
 
-fn after(gaps: &Gaps, spans: &Spans, group: &Group, one: usize) -> u32
-    requires { one < most_greens }
-    ensures { After gaps.now spans.now group.now one result }
-{
-    let mut room = gaps.cycle.seconds() as u32;
-    for other in 0..gaps.count {
-        if group.member[other] && other != one {
-            room = room.min(spans.span[one * MOST + other]);
+    fn spans_from(&self, bounds: &Bounds, first: usize) -> [u32; MOST]
+        ensures { SpansFrom self.now bounds.now first result }
+    {
+        from_fn(|second| self.span(bounds, first, second))
+    }
+
+    pub(crate) fn spread(&self, bounds: &Bounds) -> Spans
+        ensures { Spread self.now bounds.now result }
+    {
+        Spans {
+            span: from_fn(
+                |first|
+                    ensures { SpansFrom self.entry.now bounds.entry.now first result }
+                { self.spans_from(bounds, first) },
+            ),
         }
     }
-    room
-}
 
-fn afters(gaps: &Gaps, spans: &Spans, group: &Group) -> Margins
-    ensures { Afters gaps.now spans.now group.now result }
-{
-    let mut out = [0; MOST];
-    for one in 0..gaps.count {
-        if group.member[one] {
-            out[one] = after(gaps, spans, group, one);
+    fn after(&self, spans: &Spans, group: &Group, one: usize) -> u32
+        ensures { After self.now spans.now group.now one result }
+    {
+        let mut room = self.round();
+        for other in 0..self.count {
+            if group.has(other) && other != one {
+                room = room.min(spans.between(one, other));
+            }
+        }
+        room
+    }
+
+    fn afters(&self, spans: &Spans, group: &Group) -> Margins
+        ensures { Afters self.now spans.now group.now result }
+    {
+        Margins {
+            of: from_fn(|one| if group.has(one) {
+                self.after(spans, group, one)
+            } else {
+                0
+            }),
         }
     }
-    Margins { of: out }
-}
 
-fn ahead(gaps: &Gaps, spans: &Spans, group: &Group, out: &Margins, other: usize) -> u32
-    requires { other < most_greens }
-    ensures { Ahead gaps.now spans.now group.now out.now other result }
-{
-    let mut room = (gaps.cycle.seconds() as u32).saturating_sub(out.of[other]);
-    for one in 0..gaps.count {
-        if group.member[one] && one != other {
-            room = room.min(spans.span[one * MOST + other].saturating_sub(out.of[one]));
+    fn ahead(&self, spans: &Spans, group: &Group, out: &Margins, other: usize) -> u32
+        ensures { Ahead self.now spans.now group.now out.now other result }
+    {
+        let mut room = self.round().saturating_sub(out.of(other));
+        for one in 0..self.count {
+            if group.has(one) && one != other {
+                room = room.min(spans.between(one, other).saturating_sub(out.of(one)));
+            }
+        }
+        room
+    }
+
+    fn aheads(&self, spans: &Spans, group: &Group, out: &Margins) -> Margins
+        ensures { Aheads self.now spans.now group.now out.now result }
+    {
+        Margins {
+            of: from_fn(|other| if group.has(other) {
+                self.ahead(spans, group, out, other)
+            } else {
+                0
+            }),
         }
     }
-    room
-}
 
-fn aheads(gaps: &Gaps, spans: &Spans, group: &Group, out: &Margins) -> Margins
-    ensures { Aheads gaps.now spans.now group.now out.now result }
-{
-    let mut into = [0; MOST];
-    for other in 0..gaps.count {
-        if group.member[other] {
-            into[other] = ahead(gaps, spans, group, out, other);
-        }
+    fn total(&self, out: &Margins, into: &Margins) -> u32
+        ensures { result ≤ sum_to self.now.count (λ k. margin_of out.now k + margin_of into.now k) }
+    {
+        (0..self.count).fold(
+            0,
+            |sum: u32, green| sum.saturating_add(out.of(green).saturating_add(into.of(green))),
+        )
     }
-    Margins { of: into }
-}
 
-fn total(gaps: &Gaps, out: &Margins, into: &Margins) -> u32
-    ensures { result ≤ sum_to gaps.now.count (λ k. margin_of out.now k + margin_of into.now k) }
-{
-    let mut sum: u32 = 0;
-    for green in 0..gaps.count {
-        sum = sum.saturating_add(out.of[green].saturating_add(into.of[green]));
+    // How much of the cycle a group takes, with such spans; where that is more than the cycle, nobody obeys bounds that have them.
+    pub(crate) fn taken(&self, spans: &Spans, group: &Group) -> u32
+        ensures { (s : Bounds) → Spread self.now s spans.now → Crowding self.now s result }
+    {
+        let out = self.afters(spans, group);
+        let into = self.aheads(spans, group, &out);
+        self.total(&out, &into)
     }
-    sum
-}
 
-// How much of the cycle a group takes, with such spans; where that is more than the cycle, nobody obeys bounds that have them.
-pub(crate) fn taken(gaps: &Gaps, spans: &Spans, group: &Group) -> u32
-    ensures { (s : Bounds) → Spread gaps.now s spans.now → Crowding gaps.now s result }
-{
-    let out = afters(gaps, spans, group);
-    let into = aheads(gaps, spans, group, &out);
-    total(gaps, &out, &into)
-}
-
-// Whether a group takes more than the cycle, so that nobody obeys.
-pub(crate) fn crowded(gaps: &Gaps, bounds: &Bounds, group: &Group) -> bool
-    ensures { result ≡ true → Nobody gaps.now bounds.now }
-{
-    let spans = spread(gaps, bounds);
-    taken(gaps, &spans, group) > gaps.cycle.seconds() as u32
+    // Whether a group takes more than the cycle, so that nobody obeys.
+    pub(crate) fn crowded(&self, bounds: &Bounds, group: &Group) -> bool
+        ensures { result ≡ true → Nobody self.now bounds.now }
+    {
+        let spans = self.spread(bounds);
+        self.taken(&spans, group) > self.round()
+    }
 }

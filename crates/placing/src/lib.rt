@@ -9,6 +9,7 @@ mod knowing;
 mod measuring;
 mod moving;
 mod narrowing;
+mod pairs;
 mod placed;
 mod room;
 mod searching;

@@ -3,75 +3,74 @@ ghost use Rattle.std.specs.Prelude.{◌<◌, MatchOption};
 ghost use Rattle.placing.specs.Bounds.{Nobody};
 ghost use Rattle.placing.specs.Steps.{Far, Met, Row, Round, Narrowed};
 
-use crate::knowing::comes_first;
-use crate::moving::{lower, raise};
+use crate::pairs::Pair;
 use crate::room::Bounds;
-use crate::sizes::MOST;
 use crate::spacing::Gaps;
 
-// By how much the first has to begin before the second's next turn.
-fn distance(gaps: &Gaps, bounds: &Bounds, first: usize, second: usize) -> u32
-    requires { (first < gaps.now.count) × (second < gaps.now.count) }
-    ensures { Far gaps.now bounds.now first second result }
-{
-    let gap = gaps.gap[first * MOST + second] as u32;
-    if comes_first(gaps, bounds, first, second) {
-        gap + gaps.cycle.seconds() as u32
-    } else {
-        gap
-    }
-}
-
-// Narrows the bounds of two greens, and says whether one moved; none where that leaves one of them nowhere to begin.
-fn meet(gaps: &Gaps, bounds: &mut Bounds, first: usize, second: usize) -> Option<bool>
-    requires { (first < gaps.now.count) × (second < gaps.now.count) }
-    ensures { MatchOption result (Nobody gaps.now bounds.old) (λ moved. Met gaps.now bounds.old bounds.new first second moved) }
-{
-    let round = gaps.cycle.seconds() as u32;
-    let far = distance(gaps, bounds, first, second);
-    let last = bounds.high[second] as u32 + round;
-    if far > last {
-        return None;
-    }
-    let earliest = (bounds.low[first] as u32 + far).saturating_sub(round);
-    let raised = raise(bounds, second, earliest)?;
-    let lowered = lower(bounds, first, last - far)?;
-    Some(raised | lowered)
-}
-
-// Narrows the bounds of a green and each other.
-fn meet_all(gaps: &Gaps, bounds: &mut Bounds, first: usize) -> Option<bool>
-    requires { first < gaps.now.count }
-    ensures { MatchOption result (Nobody gaps.now bounds.old) (λ moved. Row gaps.now bounds.old bounds.new first gaps.now.count moved) }
-{
-    let mut moved = false;
-    for second in 0..gaps.count {
-        let news = meet(gaps, bounds, first, second)?;
-        moved = moved | news;
-    }
-    Some(moved)
-}
-
-// Narrows the bounds of any two greens once.
-fn go_round(gaps: &Gaps, bounds: &mut Bounds) -> Option<bool>
-    ensures { MatchOption result (Nobody gaps.now bounds.old) (λ moved. Round gaps.now bounds.old bounds.new gaps.now.count moved) }
-{
-    let mut moved = false;
-    for first in 0..gaps.count {
-        let news = meet_all(gaps, bounds, first)?;
-        moved = moved | news;
-    }
-    Some(moved)
-}
-
-// Narrows all bounds until nothing moves; none where that leaves a green nowhere to begin.
-pub(crate) fn narrow(gaps: &Gaps, bounds: &mut Bounds) -> Option<()>
-    ensures { MatchOption result (Nobody gaps.now bounds.old) (λ _. Narrowed gaps.now bounds.old bounds.new) }
-{
-    loop {
-        let moved = go_round(gaps, bounds)?;
-        if !moved {
-            return Some(());
+impl Pair<'_> {
+    // By how much the first has to begin before the second's next turn.
+    fn distance(&self, bounds: &Bounds) -> u32
+        ensures { Far self.now.gaps.now bounds.now self.now.first self.now.second result }
+    {
+        let gap = u32::from(self.gap());
+        if self.comes_first(bounds) {
+            gap + self.gaps.round()
+        } else {
+            gap
         }
+    }
+
+    // Narrows the bounds of both, and says whether one moved; none where that leaves one of them nowhere to begin.
+    fn meet(&self, bounds: &mut Bounds) -> Option<bool>
+        ensures { MatchOption result (Nobody self.now.gaps.now bounds.old) (λ moved. Met self.now.gaps.now bounds.old bounds.new self.now.first self.now.second moved) }
+    {
+        let round = self.gaps.round();
+        let far = self.distance(bounds);
+        let last = u32::from(bounds.high(self.second)) + round;
+        if far > last {
+            return None;
+        }
+        let earliest = (u32::from(bounds.low(self.first)) + far).saturating_sub(round);
+        let raised = bounds.raise(self.second, earliest)?;
+        let lowered = bounds.lower(self.first, last - far)?;
+        Some(raised | lowered)
+    }
+}
+
+impl Gaps {
+    // Narrows the bounds of a green and each other.
+    fn meet_all(&self, bounds: &mut Bounds, first: usize) -> Option<bool>
+        requires { first < self.now.count }
+        ensures { MatchOption result (Nobody self.now bounds.old) (λ moved. Row self.now bounds.old bounds.new first self.now.count moved) }
+    {
+        let mut moved = false;
+        for second in 0..self.count {
+            let pair = Pair {
+                gaps: self,
+                first,
+                second,
+            };
+            moved |= pair.meet(bounds)?;
+        }
+        Some(moved)
+    }
+
+    // Narrows the bounds of any two greens once.
+    fn go_round(&self, bounds: &mut Bounds) -> Option<bool>
+        ensures { MatchOption result (Nobody self.now bounds.old) (λ moved. Round self.now bounds.old bounds.new self.now.count moved) }
+    {
+        let mut moved = false;
+        for first in 0..self.count {
+            moved |= self.meet_all(bounds, first)?;
+        }
+        Some(moved)
+    }
+
+    // Narrows all bounds until nothing moves; none where that leaves a green nowhere to begin.
+    pub(crate) fn narrow(&self, bounds: &mut Bounds) -> Option<()>
+        ensures { MatchOption result (Nobody self.now bounds.old) (λ _. Narrowed self.now bounds.old bounds.new) }
+    {
+        while self.go_round(bounds)? {}
+        Some(())
     }
 }

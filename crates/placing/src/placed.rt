@@ -5,26 +5,21 @@ ghost use Rattle.placing.specs.Settings.{task_of};
 ghost use Rattle.placing.specs.Starts.{Placed};
 
 use crate::answers::Starts;
-use crate::grouping::largest;
-use crate::measuring::measure;
 use crate::room::Bounds;
-use crate::searching::search;
 use crate::settings::Setting;
-use crate::sizes::{MOST, PAIRS};
+use crate::sizes::MOST;
 
-// The bounds that a search begins with.
-fn open(setting: &Setting) -> Bounds
-    ensures { Open setting.now result }
-{
-    let last = setting.cycle.seconds() - 1;
-    let mut high = [0; MOST];
-    for green in 0..MOST {
-        high[green] = setting.highest[green].min(last);
-    }
-    Bounds {
-        low: setting.lowest,
-        high,
-        before: [false; PAIRS],
+impl Bounds {
+    // The bounds that a search begins with.
+    fn open(setting: &Setting) -> Bounds
+        ensures { Open setting.now result }
+    {
+        let last = setting.cycle.seconds() - 1;
+        Bounds {
+            low: setting.lowest,
+            high: setting.highest.map(|highest| highest.min(last)),
+            before: [[false; MOST]; MOST],
+        }
     }
 }
 
@@ -32,8 +27,8 @@ fn open(setting: &Setting) -> Bounds
 pub fn place(setting: &Setting) -> Option<Starts>
     ensures { MatchOption result ((start : ℕ → ℕ) → Placed (task_of setting.now) start → ⊥) (λ s. Placed (task_of setting.now) (start_of s)) }
 {
-    let gaps = measure(setting);
-    let bounds = open(setting);
-    let group = largest(&gaps, &bounds);
-    search(&gaps, &group, bounds)
+    let gaps = setting.measure();
+    let bounds = Bounds::open(setting);
+    let group = gaps.largest(&bounds);
+    gaps.search(&group, bounds)
 }

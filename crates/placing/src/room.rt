@@ -1,15 +1,43 @@
 // How far a search has come: from when to when each green may still begin, and which it has put before which.
-ghost use Rattle.std.specs.Prelude.{◌≡◌, length};
-ghost use Rattle.placing.specs.Sizes.{most_greens, most_pairs};
+ghost use Rattle.std.specs.Prelude.{◌≡◌, All, [], false, length, slice_index, slice_index_or};
+ghost use Rattle.placing.specs.Sizes.{most_greens};
 
-use crate::sizes::{MOST, PAIRS};
+use crate::sizes::MOST;
 
+// Two lists and no list of pairs: a setting gives the first seconds whole, and those that are left are the answer.
 #[derive(Clone, Copy)]
 pub struct Bounds {
     pub(crate) low: [u8; MOST],
     pub(crate) high: [u8; MOST],
-    // Row by row: the row's green comes before the column's.
-    pub(crate) before: [bool; PAIRS],
+    // A row for each green: it has been put before the column's.
+    pub(crate) before: [[bool; MOST]; MOST],
     ghost framed: { (length low ≡ most_greens) × (length high ≡ most_greens) },
-    ghost sized: { length before ≡ most_pairs },
+    ghost sized: { length before ≡ most_greens },
+    ghost square: { All (λ row. length row ≡ most_greens) before },
+}
+
+impl Bounds {
+    // The first second in which a green may begin; 0 past the last that there is room for.
+    pub(crate) fn low(&self, green: usize) -> u8
+        ensures { result ≡ slice_index self.now.low green }
+    {
+        self.low.get(green).copied().unwrap_or(0)
+    }
+
+    // The last second in which a green may begin; 0 past the last that there is room for.
+    pub(crate) fn high(&self, green: usize) -> u8
+        ensures { result ≡ slice_index self.now.high green }
+    {
+        self.high.get(green).copied().unwrap_or(0)
+    }
+
+    // Whether a green has been put before another.
+    pub(crate) fn has_put(&self, first: usize, second: usize) -> bool
+        ensures { result ≡ slice_index_or (slice_index_or self.now.before first []) second false }
+    {
+        let row = self.before.get(first);
+        row.and_then(|row| row.get(second))
+            .copied()
+            .unwrap_or(false)
+    }
 }

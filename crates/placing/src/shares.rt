@@ -1,8 +1,8 @@
 // What a crowd is counted with: who is in it, how far any two are apart, and how much room is each one's own.
-ghost use Rattle.std.specs.Prelude.{◌≡◌, length};
-ghost use Rattle.placing.specs.Sizes.{most_greens, most_pairs};
+ghost use Rattle.std.specs.Prelude.{◌≡◌, ◌≤◌, [], false, true, length, slice_index, slice_index_or, slice_set};
+ghost use Rattle.placing.specs.Sizes.{most_greens};
 
-use crate::sizes::{MOST, PAIRS};
+use crate::sizes::MOST;
 
 #[derive(Clone, Copy)]
 pub struct Group {
@@ -10,15 +10,55 @@ pub struct Group {
     ghost sized: { length member ≡ most_greens },
 }
 
-// Row by row, a number for each green: by how much the row's green begins before the column's, or before its next turn.
+impl Group {
+    pub(crate) fn empty() -> Group {
+        Group {
+            member: [false; MOST],
+        }
+    }
+
+    pub(crate) fn has(&self, green: usize) -> bool
+        ensures { result ≡ slice_index_or self.now.member green false }
+    {
+        self.member.get(green).copied().unwrap_or(false)
+    }
+
+    // The same group with one more; past the last that there is room for there is none to add.
+    pub(crate) fn with(self, green: usize) -> Group {
+        let mut member = self.member;
+        if green < MOST {
+            member[green] = true;
+        }
+        Group { member }
+    }
+}
+
+// A row for each green, in it a number for each: by how much the row's begins before the column's, or before its next turn.
 #[derive(Clone, Copy)]
 pub struct Spans {
-    pub(crate) span: [u32; PAIRS],
-    ghost sized: { length span ≡ most_pairs },
+    pub(crate) span: [[u32; MOST]; MOST],
+}
+
+impl Spans {
+    // The span from one green to another; 0 past the last that there is room for.
+    pub(crate) fn between(&self, first: usize, second: usize) -> u32
+        ensures { result ≡ slice_index (slice_index_or self.now.span first []) second }
+    {
+        let row = self.span.get(first);
+        row.and_then(|row| row.get(second)).copied().unwrap_or(0)
+    }
 }
 
 #[derive(Clone, Copy)]
 pub struct Margins {
     pub(crate) of: [u32; MOST],
-    ghost sized: { length of ≡ most_greens },
+}
+
+impl Margins {
+    // The room that is a green's own; 0 past the last that there is room for.
+    pub(crate) fn of(&self, green: usize) -> u32
+        ensures { result ≡ slice_index self.now.of green }
+    {
+        self.of.get(green).copied().unwrap_or(0)
+    }
 }

@@ -1,5 +1,0 @@
-use Rattle.placing.specs.Steps.{Round}
-use Rattle.placing.proofs.narrowing.go_round.Given as goal
-
-abbrev pub invariant-loop-first : goal.invariant-loop-first
-invariant-loop-first l = Round l.gaps l.initial.bounds l.bounds l.first l.moved

@@ -1,5 +1,0 @@
-use Rattle.placing.specs.Bounds.{room_of}
-use Rattle.placing.proofs.searching.+search.Given as goal
-
-abbrev pub decreases-search : goal.decreases-search
-decreases-search l = room_of l.bounds
