@@ -1,8 +1,9 @@
 // The greens of a group share the cycle: room after and before each is its own, and all of it together is no more than the cycle.
-ghost use Rattle.std.specs.Prelude.{◌≡◌, ◌+◌, ◌<◌, ◌≤◌, true};
+ghost use Rattle.std.specs.Prelude.{◌≡◌, ℕ, ◌+◌, ◌<◌, ◌≤◌, ◌≢◌, true, false};
 ghost use Rattle.crossing.specs.Below.{sum_to};
 ghost use Rattle.placing.specs.Bounds.{Nobody};
-ghost use Rattle.placing.specs.Crowds.{Span, SpansFrom, Spread, After, Afters, Ahead, Aheads, Crowding, margin_of};
+ghost use Rattle.placing.specs.Crowds.{Span, SpansFrom, Spread, After, Afters, Ahead, Aheads, Crowding, member_of, margin_of};
+ghost use Rattle.placing.specs.Sizes.{most_greens};
 
 use crate::pairs::Pair;
 use crate::room::Bounds;
@@ -29,6 +30,34 @@ impl Pair<'_> {
             return gap.max((low + self.gaps.round()).saturating_sub(high));
         }
         gap
+    }
+}
+
+impl Group {
+    // The least of a number over the group's others, and of a bound.
+    fn least<F: Fn(usize) -> u32>(&self, count: usize, but: usize, bound: u32, number: F) -> u32
+        requires { F.IsAlwaysCallable number }
+        ensures whole { result ≤ bound }
+        ensures least { (k : ℕ) → k < count → member_of self.now k ≡ true → (k ≢ but) → (y : _) × F.post number k y × (result ≤ y) }
+    {
+        (0..count).fold(bound, |least, k| {
+            if self.has(k) && k != but {
+                least.min(number(k))
+            } else {
+                least
+            }
+        })
+    }
+
+    // A number for each of the group, none for others.
+    fn margins<F: Fn(usize) -> u32>(&self, number: F) -> Margins
+        requires { F.IsAlwaysCallable number }
+        ensures none { (k : ℕ) → k < most_greens → member_of self.now k ≡ false → margin_of result k ≡ 0 }
+        ensures some { (k : ℕ) → k < most_greens → member_of self.now k ≡ true → F.post number k (margin_of result k) }
+    {
+        Margins {
+            of: from_fn(|k| if self.has(k) { number(k) } else { 0 }),
+        }
     }
 }
 
@@ -61,52 +90,38 @@ impl Gaps {
         }
     }
 
+    // Room after a green that is its own: no more than to any other of the group, nor than the cycle.
     fn after(&self, spans: &Spans, group: &Group, one: usize) -> u32
         ensures { After self.now spans.now group.now one result }
     {
-        let mut room = self.round();
-        for other in 0..self.count {
-            if group.has(other) && other != one {
-                room = room.min(spans.between(one, other));
-            }
-        }
-        room
+        group.least(
+            self.count,
+            one,
+            self.round(),
+            |other| spans.between(one, other),
+        )
+    }
+
+    // Room before it: no more than what any other of the group leaves, nor than is left of the cycle.
+    fn ahead(&self, spans: &Spans, group: &Group, out: &Margins, other: usize) -> u32
+        ensures { Ahead self.now spans.now group.now out.now other result }
+    {
+        let rest = self.round().saturating_sub(out.of(other));
+        group.least(self.count, other, rest, |one| {
+            spans.between(one, other).saturating_sub(out.of(one))
+        })
     }
 
     fn afters(&self, spans: &Spans, group: &Group) -> Margins
         ensures { Afters self.now spans.now group.now result }
     {
-        Margins {
-            of: from_fn(|one| if group.has(one) {
-                self.after(spans, group, one)
-            } else {
-                0
-            }),
-        }
-    }
-
-    fn ahead(&self, spans: &Spans, group: &Group, out: &Margins, other: usize) -> u32
-        ensures { Ahead self.now spans.now group.now out.now other result }
-    {
-        let mut room = self.round().saturating_sub(out.of(other));
-        for one in 0..self.count {
-            if group.has(one) && one != other {
-                room = room.min(spans.between(one, other).saturating_sub(out.of(one)));
-            }
-        }
-        room
+        group.margins(|one| self.after(spans, group, one))
     }
 
     fn aheads(&self, spans: &Spans, group: &Group, out: &Margins) -> Margins
         ensures { Aheads self.now spans.now group.now out.now result }
     {
-        Margins {
-            of: from_fn(|other| if group.has(other) {
-                self.ahead(spans, group, out, other)
-            } else {
-                0
-            }),
-        }
+        group.margins(|other| self.ahead(spans, group, out, other))
     }
 
     fn total(&self, out: &Margins, into: &Margins) -> u32

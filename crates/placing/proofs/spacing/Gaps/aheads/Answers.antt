@@ -1,17 +1,8 @@
-use Rattle.std.proofs.Common.{◌≡◌, true, false, arith, rules}
-use Rattle.placing.specs.Crowds.{Ahead, member_of}
-use Rattle.placing.proofs.Made.{made_of}
+use Rattle.std.proofs.Common.{arith, rules}
 use Rattle.placing.proofs.spacing.Gaps.aheads.Goals as goal
 
 pub returns : goal.returns
-returns c =
-    let q = c.args.self.now in
-    let m = c.args.group.now in
-    let each =
-    made_of _ (λ k room. (member_of m k ≡ false → room ≡ 0) × (member_of m k ≡ true → Ahead q c.args.spans.now m c.args.out.now k room)) _ _
-    (λ k room q called. search rules) _ c.from_fn.ensures.items
-    in
-    record {
-      none = λ a ha. (each a 0 (omega (arith, q.few))).0;
-      some = λ a ha. (each a 0 (omega (arith, q.few))).1;
-    }
+returns c = record {
+  none = λ a ha. c.margins.ensures.none a (omega (arith, c.args.self.now.few));
+  some = λ a ha m. let said = c.margins.ensures.some a (omega (arith, c.args.self.now.few)) m in search rules;
+}
