@@ -56,25 +56,18 @@ impl Gaps {
         requires { one < self.now.count }
         ensures { MatchOption result ((b : ℕ) → b ≤ one → OneFirst self.now bounds.now one b) (λ c. Clashing self.now bounds.now c.first c.second) }
     {
-        let mut best = None;
-        for other in 0..one + 1 {
-            let pair = Pair {
-                gaps: self,
-                first: one,
-                second: other,
-            };
-            best = tighter(best, pair.weigh(bounds));
-        }
-        best
+        (0..one + 1).fold(None, |best, other| {
+            let clash = self.pair(one, other).and_then(|pair| pair.weigh(bounds));
+            tighter(best, clash)
+        })
     }
 
     pub(crate) fn tightest(&self, bounds: &Bounds) -> Option<Clash>
         ensures { MatchOption result ((a : ℕ) → a < self.now.count → (b : ℕ) → b ≤ a → OneFirst self.now bounds.now a b) (λ c. Clashing self.now bounds.now c.first c.second) }
     {
-        let mut best = None;
-        for one in 0..self.count {
-            best = tighter(best, self.tightest_with(bounds, one));
-        }
-        best
+        (0..self.count).fold(
+            None,
+            |best, one| tighter(best, self.tightest_with(bounds, one)),
+        )
     }
 }
