@@ -1,11 +1,11 @@
 -- Steps of narrowing, one after the other.
-use Rattle.std.proofs.Common.{◌≡◌, ℕ, ◌+◌, ◌-◌, ◌<◌, ◌≤◌, Bool, true, false, ◌||◌, ◌∙◌, ⊎_elim, arith}
+use Rattle.std.proofs.Common.{◌≡◌, ℕ, ◌+◌, ◌-◌, ◌<◌, ◌≤◌, Bool, true, false, ◌||◌, ◌∙◌, ⊎_elim, below_more, arith}
 use Rattle.std.proofs.lemmas.Bool.{cases_Bool, or_parts, or_cases}
 use Rattle.placing.specs.declared.room.Bounds.{Bounds}
 use Rattle.placing.specs.declared.spacing.Gaps.{Gaps}
 use Rattle.placing.specs.Gaps.{InOrder}
 use Rattle.placing.specs.Bounds.{Obeys, Narrower, Raised, Lowered, low_of, high_of, room_of}
-use Rattle.placing.specs.Steps.{Far, Step, Met, Round, Narrowed}
+use Rattle.placing.specs.Steps.{Far, Settled, Step, Met, Round, Narrowed}
 use Rattle.placing.proofs.Rooms.{raised_room, raised_keeps, raised_back, lowered_room, lowered_keeps, lowered_back}
 use Rattle.placing.specs.Sizes.{most_greens}
 
@@ -86,6 +86,21 @@ met_from q s m t a b far up down x y ha hb f within upward downward r l =
             order = λ h. omega (arith, f.first h);
           });
     }
+
+-- one pair more in a round
+pub round_more :
+    (q : Gaps) (s m t : Bounds) (n a k : ℕ) (x y : Bool) → Round q s m n x → (x ≡ false → (b : ℕ) → b < k → Settled q m a b) → Met q m t a k y →
+    Round q s t n (x || y) × ((x || y) ≡ false → (b : ℕ) → b < k + 1 → Settled q t a b)
+round_more q s m t n a k x y round row met = (
+  record {
+    step = step_more q s m t x y round.step met.step;
+    settled = λ e. let parts = or_parts x y e in let same : t ≡ m = met.step.still parts.1 in rw same (round.settled parts.0);
+  },
+  λ e.
+      let parts = or_parts x y e in
+      let same : t ≡ m = met.step.still parts.1 in
+      below_more _ _ (rw same (row parts.0)) (met.settled parts.1),
+)
 
 -- where a round moves nothing, the narrowing is done
 pub narrowed_from : (q : Gaps) (s m t : Bounds) (moved : Bool) → Narrower q s m → room_of m ≤ room_of s → Round q m t q.count moved → moved ≡ false → Narrowed q s t

@@ -33,11 +33,6 @@ pub record Met (q : Gaps) (s t : Bounds) (a b : ℕ) (moved : Bool) : Type 0 whe
   pub step : Step q s t moved
   pub settled : moved ≡ false → Settled q t a b
 
--- steps for a and all of the first n, which are settled if nothing moved
-pub record Row (q : Gaps) (s t : Bounds) (a n : ℕ) (moved : Bool) : Type 0 where
-  pub step : Step q s t moved
-  pub settled : moved ≡ false → (b : ℕ) → b < n → Settled q t a b
-
 -- steps for each of the first n and all, which are settled if nothing moved
 pub record Round (q : Gaps) (s t : Bounds) (n : ℕ) (moved : Bool) : Type 0 where
   pub step : Step q s t moved

@@ -1,7 +1,7 @@
 // Bounds made narrower by what has to be between two greens, until nothing moves.
-ghost use Rattle.std.specs.Prelude.{◌<◌, MatchOption};
+ghost use Rattle.std.specs.Prelude.{MatchOption};
 ghost use Rattle.placing.specs.Bounds.{Nobody};
-ghost use Rattle.placing.specs.Steps.{Far, Met, Row, Round, Narrowed};
+ghost use Rattle.placing.specs.Steps.{Far, Met, Round, Narrowed};
 
 use crate::pairs::Pair;
 use crate::room::Bounds;
@@ -38,30 +38,20 @@ impl Pair<'_> {
 }
 
 impl Gaps {
-    // Narrows the bounds of a green and each other.
-    fn meet_all(&self, bounds: &mut Bounds, first: usize) -> Option<bool>
-        requires { first < self.now.count }
-        ensures { MatchOption result (Nobody self.now bounds.old) (λ moved. Row self.now bounds.old bounds.new first self.now.count moved) }
-    {
-        let mut moved = false;
-        for second in 0..self.count {
-            let pair = Pair {
-                gaps: self,
-                first,
-                second,
-            };
-            moved |= pair.meet(bounds)?;
-        }
-        Some(moved)
-    }
-
-    // Narrows the bounds of any two greens once.
+    // Narrows the bounds of any two greens once. No `try_fold`: it would hand on the bounds by value from pair to pair.
     fn go_round(&self, bounds: &mut Bounds) -> Option<bool>
         ensures { MatchOption result (Nobody self.now bounds.old) (λ moved. Round self.now bounds.old bounds.new self.now.count moved) }
     {
         let mut moved = false;
         for first in 0..self.count {
-            moved |= self.meet_all(bounds, first)?;
+            for second in 0..self.count {
+                let pair = Pair {
+                    gaps: self,
+                    first,
+                    second,
+                };
+                moved |= pair.meet(bounds)?;
+            }
         }
         Some(moved)
     }
