@@ -4,7 +4,7 @@ ghost use Rattle.placing.specs.Sizes.{most_greens};
 
 use crate::sizes::MOST;
 
-#[derive(Clone, Copy)]
+#[derive(Clone, Copy, Debug, PartialEq, Eq)]
 pub struct Starts {
     pub(crate) at: [u8; MOST],
     ghost sized: { length at ≡ most_greens },

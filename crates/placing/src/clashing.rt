@@ -6,7 +6,7 @@ use crate::pairs::Pair;
 use crate::room::Bounds;
 use crate::spacing::Gaps;
 
-#[derive(Clone, Copy)]
+#[derive(Clone, Copy, Debug, PartialEq, Eq)]
 pub struct Clash {
     pub(crate) first: usize,
     pub(crate) second: usize,

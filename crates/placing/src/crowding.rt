@@ -66,10 +66,7 @@ impl Gaps {
     fn span(&self, bounds: &Bounds, first: usize, second: usize) -> u32
         ensures { first < self.now.count → second < self.now.count → Span self.now bounds.now first second result }
     {
-        match self.pair(first, second) {
-            Some(pair) => pair.span(bounds),
-            None => 0,
-        }
+        self.pair(first, second).map_or(0, |pair| pair.span(bounds))
     }
 
     fn spans_from(&self, bounds: &Bounds, first: usize) -> [u32; MOST]

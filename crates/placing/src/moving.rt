@@ -1,4 +1,5 @@
-// A bound moved, if that is news.
+// A bound moved, if that is news. Both answer an `Option<bool>`: with it `?` ends a step where a green can begin nowhere, and `|` joins what moved.
+// They are two, since only `raise` still has to see that the bounds leave a second.
 ghost use Rattle.std.specs.Prelude.{◌<◌, ◌⊎◌, MatchOption};
 ghost use Rattle.placing.specs.Bounds.{low_of, high_of, Raised, Lowered};
 

@@ -5,7 +5,7 @@ ghost use Rattle.placing.specs.Sizes.{most_greens};
 use crate::sizes::MOST;
 
 // Two lists and no list of pairs: a setting gives the first seconds whole, and those that are left are the answer.
-#[derive(Clone, Copy)]
+#[derive(Clone, Copy, Debug, PartialEq, Eq)]
 pub struct Bounds {
     pub(crate) low: [u8; MOST],
     pub(crate) high: [u8; MOST],

@@ -5,6 +5,7 @@ ghost use Rattle.placing.specs.Sizes.{most_greens, most_pairs};
 use crate::sizes::{MOST, PAIRS};
 use greens::Cycle;
 
+// Lists side by side: the clauses speak of each by itself, and a search begins with the first seconds as they stand.
 #[derive(Clone, Copy)]
 pub struct Setting {
     pub(crate) cycle: Cycle,

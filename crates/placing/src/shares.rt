@@ -4,7 +4,7 @@ ghost use Rattle.placing.specs.Sizes.{most_greens};
 
 use crate::sizes::MOST;
 
-#[derive(Clone, Copy)]
+#[derive(Clone, Copy, Debug, PartialEq, Eq)]
 pub struct Group {
     pub(crate) member: [bool; MOST],
     ghost sized: { length member ≡ most_greens },
@@ -34,7 +34,7 @@ impl Group {
 }
 
 // A row for each green, in it a number for each: by how much the row's begins before the column's, or before its next turn.
-#[derive(Clone, Copy)]
+#[derive(Clone, Copy, Debug, PartialEq, Eq)]
 pub struct Spans {
     pub(crate) span: [[u32; MOST]; MOST],
 }
@@ -49,7 +49,7 @@ impl Spans {
     }
 }
 
-#[derive(Clone, Copy)]
+#[derive(Clone, Copy, Debug, PartialEq, Eq)]
 pub struct Margins {
     pub(crate) of: [u32; MOST],
 }
