@@ -19,14 +19,14 @@ impl Pair<'_> {
     fn weigh(&self, bounds: &Bounds) -> Option<Clash>
         ensures { MatchOption result (OneFirst self.now.gaps.now bounds.now self.now.first self.now.second) (λ c. Clashing self.now.gaps.now bounds.now c.first c.second) }
     {
-        let low = u32::from(bounds.low(self.first));
-        let other_low = u32::from(bounds.low(self.second));
+        let low = u32::from(bounds.low[self.first]);
+        let other_low = u32::from(bounds.low[self.second]);
         let there = low + u32::from(self.gap());
         let back = other_low + u32::from(self.turned().gap());
         if there <= other_low || back <= low {
             return None;
         }
-        let high = u32::from(bounds.high(self.first)) + u32::from(bounds.high(self.second));
+        let high = u32::from(bounds.high[self.first]) + u32::from(bounds.high[self.second]);
         let room = high.saturating_sub(there + back);
         let (first, second) = if low <= other_low {
             (self.first, self.second)

@@ -21,8 +21,8 @@ impl Pair<'_> {
         if gap == 0 {
             return 0;
         }
-        let low = u32::from(bounds.low(self.second));
-        let high = u32::from(bounds.high(self.first));
+        let low = u32::from(bounds.low[self.second]);
+        let high = u32::from(bounds.high[self.first]);
         if self.comes_first(bounds) {
             return gap.max(low.saturating_sub(high));
         }

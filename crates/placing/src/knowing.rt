@@ -9,7 +9,7 @@ impl Pair<'_> {
     pub(crate) fn comes_first(&self, bounds: &Bounds) -> bool
         ensures { Known self.now.gaps.now bounds.now self.now.first self.now.second result }
     {
-        let earliest = u32::from(bounds.low(self.second)) + u32::from(self.turned().gap());
-        bounds.has_put(self.first, self.second) || earliest > u32::from(bounds.high(self.first))
+        let earliest = u32::from(bounds.low[self.second]) + u32::from(self.turned().gap());
+        bounds.before[self.first][self.second] || earliest > u32::from(bounds.high[self.first])
     }
 }

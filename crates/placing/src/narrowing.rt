@@ -26,11 +26,11 @@ impl Pair<'_> {
     {
         let round = self.gaps.round();
         let far = self.distance(bounds);
-        let last = u32::from(bounds.high(self.second)) + round;
+        let last = u32::from(bounds.high[self.second]) + round;
         if far > last {
             return None;
         }
-        let earliest = (u32::from(bounds.low(self.first)) + far).saturating_sub(round);
+        let earliest = (u32::from(bounds.low[self.first]) + far).saturating_sub(round);
         let raised = bounds.raise(self.second, earliest)?;
         let lowered = bounds.lower(self.first, last - far)?;
         Some(raised | lowered)

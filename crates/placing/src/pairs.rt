@@ -48,6 +48,6 @@ impl<'a> Pair<'a> {
     pub(crate) fn gap(&self) -> u16
         ensures { result ≡ gap_at self.now.gaps.now self.now.first self.now.second }
     {
-        self.gaps.between(self.first, self.second)
+        self.gaps.gap[self.first][self.second]
     }
 }

@@ -1,5 +1,5 @@
 // How far a search has come: from when to when each green may still begin, and which it has put before which.
-ghost use Rattle.std.specs.Prelude.{◌≡◌, All, [], false, length, slice_index, slice_index_or};
+ghost use Rattle.std.specs.Prelude.{◌≡◌, All, length, slice_index};
 ghost use Rattle.placing.specs.Sizes.{most_greens};
 
 use crate::sizes::MOST;
@@ -29,15 +29,5 @@ impl Bounds {
         ensures { result ≡ slice_index self.now.high green }
     {
         self.high.get(green).copied().unwrap_or(0)
-    }
-
-    // Whether a green has been put before another.
-    pub(crate) fn has_put(&self, first: usize, second: usize) -> bool
-        ensures { result ≡ slice_index_or (slice_index_or self.now.before first []) second false }
-    {
-        let row = self.before.get(first);
-        row.and_then(|row| row.get(second))
-            .copied()
-            .unwrap_or(false)
     }
 }

@@ -16,7 +16,7 @@ impl Pair<'_> {
         ensures { MatchOption result (NotFirst self.now.gaps.now bounds self.now.first self.now.second) (λ t. Put self.now.gaps.now bounds t self.now.first self.now.second) }
     {
         let mut put = bounds;
-        let earliest = u32::from(put.low(self.first)) + u32::from(self.gap());
+        let earliest = u32::from(put.low[self.first]) + u32::from(self.gap());
         let _moved = put.raise(self.second, earliest)?;
         put.before[self.first][self.second] = true;
         Some(put)

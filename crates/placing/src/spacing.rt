@@ -1,5 +1,5 @@
 // By how much each green has to begin before each other, where it comes first.
-ghost use Rattle.std.specs.Prelude.{◌≡◌, ◌≤◌, [], slice_index, slice_index_or};
+ghost use Rattle.std.specs.Prelude.{◌≡◌, ◌≤◌, All, [], length, slice_index, slice_index_or};
 ghost use Rattle.placing.specs.Sizes.{most_greens};
 
 use crate::sizes::MOST;
@@ -12,6 +12,8 @@ pub struct Gaps {
     // A row for each green, in it a number for each: 0 for two that may be on together.
     pub(crate) gap: [[u16; MOST]; MOST],
     ghost few: { count ≤ most_greens },
+    ghost sized: { length gap ≡ most_greens },
+    ghost square: { All (λ row. length row ≡ most_greens) gap },
 }
 
 impl Gaps {
