@@ -1,5 +1,6 @@
 -- Greens are placed exactly if each begins in the cycle and in its window and they are in order.
 use Rattle.std.proofs.Common.{◌≡◌, ℕ, ◌+◌, ◌<◌, ◌≤◌, true, false, cond, not, ◌&&◌, ◌||◌, eqb, ltb, ◌⊎◌, inl, inr, ⊎_elim, arith}
+use Rattle.std.proofs.Math.Logic.{⊎_swap}
 use Rattle.std.proofs.lemmas.Bool.{cases_lt, cases_Bool, and_parts, and_from, or_cases, or_left, not-true, not_from_false, eqb-false, ne_eqb, ltb-true, lt-ltb, both_ways}
 use Rattle.std.proofs.lemmas.Bool.Decides.{nat_tests}
 use Rattle.crossing.proofs.Good.{apart_in}
@@ -68,9 +69,6 @@ each_way c f g l m x y p q some others k j e d =
     (λ (h : (g + m ≤ f) × (f + l + x ≤ g + c)). inr (omega (arith, j), omega arith))
     k
 
-swap : {A B : Type 0} → A ⊎ B → B ⊎ A
-swap s = ⊎_elim (λ x. inr x) (λ x. inl x) s
-
 module _ (t : Task) (start : ℕ → ℕ) (p : Placed t start) where
   kept : (a : ℕ) → a < t.count → (b : ℕ) → b < t.count → Tied t a b → t.crosses a b ≡ true → Keeps t.cycle (t.clear a b) (green_at t start a) (green_at t start b)
   kept a ha b hb w e =
@@ -99,7 +97,7 @@ module _ (t : Task) (start : ℕ → ℕ) (p : Placed t start) where
       (λ (no_way : t.crosses a b ≡ true). absurd (both_ways (t.crosses a b) ab no_way))
       (λ (ba : t.crosses b a ≡ true).
       let z : gap_of t a b ≡ t.long a + 0 = rw ab at x in
-      swap (one_way t.cycle (start b) (start a) (t.long b) (t.long a) (t.clear b a) (gap_of t b a) (gap_of t a b) (kept b hb a ha v ba) (rw ba at y) (omega arith)))
+      ⊎_swap (one_way t.cycle (start b) (start a) (t.long b) (t.long a) (t.clear b a) (gap_of t b a) (gap_of t a b) (kept b hb a ha v ba) (rw ba at y) (omega arith)))
       w.cross)
       (cases_Bool (t.crosses a b))
 

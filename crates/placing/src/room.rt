@@ -1,5 +1,5 @@
 // How far a search has come: from when to when each green may still begin, and which it has put before which.
-ghost use Rattle.std.specs.Prelude.{◌≡◌, All, length, slice_index};
+ghost use Rattle.std.specs.Prelude.{◌≡◌, All, length};
 ghost use Rattle.placing.specs.Sizes.{most_greens};
 
 use crate::sizes::MOST;
@@ -14,20 +14,4 @@ pub struct Bounds {
     ghost framed: { (length low ≡ most_greens) × (length high ≡ most_greens) },
     ghost sized: { length before ≡ most_greens },
     ghost square: { All (λ row. length row ≡ most_greens) before },
-}
-
-impl Bounds {
-    // The first second in which a green may begin; 0 past the last that there is room for.
-    pub(crate) fn low(&self, green: usize) -> u8
-        ensures { result ≡ slice_index self.now.low green }
-    {
-        self.low.get(green).copied().unwrap_or(0)
-    }
-
-    // The last second in which a green may begin; 0 past the last that there is room for.
-    pub(crate) fn high(&self, green: usize) -> u8
-        ensures { result ≡ slice_index self.now.high green }
-    {
-        self.high.get(green).copied().unwrap_or(0)
-    }
 }
