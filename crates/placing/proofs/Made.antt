@@ -1,10 +1,9 @@
--- What an array holds that a closure made, place by place.
+-- What an array holds that `from_fn` made, place by place.
 use Rattle.std.proofs.Common.{◌≡◌, ℕ, zero, suc, ◌+◌, ◌<◌, ◌≤◌, List, get_or, refl, sym, subst, ⊎_elim, arith}
 use Rattle.std.proofs.lemmas.Bool.{cases_eq}
-use Rattle.std.specs.Array.{IsFromFnResult, IsFromFnResultFrom, IsMapOf, MapsFrom}
+use Rattle.std.specs.Array.{IsFromFnResult, IsFromFnResultFrom}
 use denote.Param.Members.{Mut, Called}
 
--- by `from_fn`
 module _ {F B : Type 0} (g : Mut F (ℕ × Unit {0}) B) (P : ℕ → B → Type 0) (f : F) (ys : List B)
     (answers : (k : ℕ) (y : B) (q : F) → Called g f (k, tt) y q → (q ≡ f) × P k y) where
   made_from : (n i : ℕ) (h : F) → h ≡ f → IsFromFnResultFrom g h ys i n → (k : ℕ) (d : B) → i ≤ k → k < i + n → P k (get_or ys k d)
@@ -18,18 +17,3 @@ module _ {F B : Type 0} (g : Mut F (ℕ × Unit {0}) B) (P : ℕ → B → Type 
 
   pub made_of : (n : ℕ) → IsFromFnResult g f ys n → (k : ℕ) (d : B) → k < n → P k (get_or ys k d)
   made_of n made k d h = made_from n 0 f refl made.each k d (omega arith) (omega arith)
-
--- by `map`, from another array
-module _ {F A B : Type 0} (g : Mut F (A × Unit {0}) B) (P : A → B → Type 0) (f : F) (xs : List A) (ys : List B)
-    (answers : (x : A) (y : B) (q : F) → Called g f (x, tt) y q → (q ≡ f) × P x y) where
-  mapped_from : (n i : ℕ) (h : F) → h ≡ f → MapsFrom g h xs ys i n → (k : ℕ) (c : A) (d : B) → i ≤ k → k < i + n → P (get_or xs k c) (get_or ys k d)
-  mapped_from zero i h e each k c d low high = absurd (omega arith)
-  mapped_from (suc n) i h e each k c d low high =
-      let here : (each.0 ≡ f) × P each.1 each.2 = answers each.1 each.2 each.0 (subst (λ x. Called g x (each.1, tt) each.2 each.0) e each.5) in
-      ⊎_elim
-      (λ (same : k ≡ i). rw same (subst (λ x. P x (get_or ys i d)) (sym (each.3.1 c)) (subst (λ y. P each.1 y) (sym (each.4.1 d)) here.1)))
-      (λ (other : k ≡ i → ⊥). mapped_from n (i + 1) each.0 here.0 each.6 k c d (omega arith) (omega arith))
-      (cases_eq k i)
-
-  pub mapped_of : (n : ℕ) → IsMapOf g f xs ys n → (k : ℕ) (c : A) (d : B) → k < n → P (get_or xs k c) (get_or ys k d)
-  mapped_of n made k c d h = mapped_from n 0 f refl made.each k c d (omega arith) (omega arith)

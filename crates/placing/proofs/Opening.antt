@@ -1,5 +1,5 @@
 -- From a setting to the bounds that a search begins with, and from what the search says back to the setting.
-use Rattle.std.proofs.Common.{◌≡◌, ℕ, zero, suc, ◌<◌, false, [], get_or, replicate, sym, refl, arith}
+use Rattle.std.proofs.Common.{◌≡◌, ℕ, ◌<◌, sym, arith}
 use Rattle.std.proofs.lemmas.Bool.{both_ways}
 use Rattle.placing.specs.declared.room.Bounds.{Bounds}
 use Rattle.placing.specs.declared.spacing.Gaps.{Gaps}
@@ -11,17 +11,6 @@ use Rattle.placing.specs.Searches.{Open, Found}
 use Rattle.placing.specs.Settings.{task_of}
 use Rattle.placing.specs.Starts.{Placed}
 use Rattle.placing.proofs.Gaps.{placed_out, placed_in}
-
-none_in : (n b : ℕ) → get_or (replicate n false) b false ≡ false
-none_in zero b = refl
-none_in (suc n) zero = refl
-none_in (suc n) (suc b) = none_in n b
-
--- rows of nothing that was put before anything
-pub none_of : (n m a b : ℕ) → get_or (get_or (replicate n (replicate m false)) a []) b false ≡ false
-none_of zero m a b = refl
-none_of (suc n) m zero b = none_in m b
-none_of (suc n) m (suc a) b = none_of n m a b
 
 -- in order with the same gaps
 ordered_like :
