@@ -10,7 +10,7 @@ impl Gaps {
 
     // A green and, one after the other, all that are tied to it and to those before.
     fn grow(&self, seed: usize) -> Group {
-        (0..self.count).fold(Group::empty().with(seed), |group, green| {
+        (0..self.count).fold(Group::default().with(seed), |group, green| {
             if self.tied_to_all(&group, green) {
                 group.with(green)
             } else {
@@ -25,6 +25,6 @@ impl Gaps {
         let groups = (0..self.count).rev().map(|seed| self.grow(seed));
         groups
             .max_by_key(|group| self.taken(&spans, group))
-            .unwrap_or(Group::empty())
+            .unwrap_or_default()
     }
 }

@@ -7,7 +7,6 @@ use crate::answers::Starts;
 use crate::pairs::Pair;
 use crate::room::Bounds;
 use crate::shares::Group;
-use crate::sizes::MOST;
 use crate::spacing::Gaps;
 
 impl Pair<'_> {
@@ -17,7 +16,7 @@ impl Pair<'_> {
     {
         let mut put = bounds;
         let earliest = u32::from(put.low[self.first]) + u32::from(self.gap());
-        let _moved = put.raise(self.second, earliest)?;
+        put.raise(self.second, earliest)?;
         put.before[self.first][self.second] = true;
         Some(put)
     }

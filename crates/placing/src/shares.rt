@@ -1,22 +1,14 @@
 // What a crowd is counted with: who is in it, how far any two are apart, and how much room is each one's own.
-ghost use Rattle.std.specs.Prelude.{◌≡◌, ◌≤◌, [], false, true, length, slice_index, slice_index_or, slice_set};
-ghost use Rattle.placing.specs.Sizes.{most_greens};
+ghost use Rattle.std.specs.Prelude.{◌≡◌, [], false, slice_index, slice_index_or};
 
 use crate::sizes::MOST;
 
-#[derive(Clone, Copy, Debug, PartialEq, Eq)]
+#[derive(Clone, Copy, Debug, Default, PartialEq, Eq)]
 pub struct Group {
     pub(crate) member: [bool; MOST],
-    ghost sized: { length member ≡ most_greens },
 }
 
 impl Group {
-    pub(crate) fn empty() -> Group {
-        Group {
-            member: [false; MOST],
-        }
-    }
-
     pub(crate) fn has(&self, green: usize) -> bool
         ensures { result ≡ slice_index_or self.now.member green false }
     {
@@ -24,12 +16,11 @@ impl Group {
     }
 
     // The same group with one more; past the last that there is room for there is none to add.
-    pub(crate) fn with(self, green: usize) -> Group {
-        let mut member = self.member;
-        if green < MOST {
-            member[green] = true;
+    pub(crate) fn with(mut self, green: usize) -> Group {
+        if let Some(member) = self.member.get_mut(green) {
+            *member = true;
         }
-        Group { member }
+        self
     }
 }
 
