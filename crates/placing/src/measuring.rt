@@ -32,8 +32,10 @@ impl Setting {
     fn are_tied(&self, first: usize, second: usize) -> bool
         ensures { first < most_greens → second < most_greens → result ≡ tied (task_of self.now) first second }
     {
-        let cross = (self.entry(first, second) > 0) | (self.entry(second, first) > 0);
-        (first != second) & ((self.long(first) > 0) & ((self.long(second) > 0) & cross))
+        first != second
+            && self.long(first) > 0
+            && self.long(second) > 0
+            && (self.entry(first, second) > 0 || self.entry(second, first) > 0)
     }
 
     fn gap(&self, first: usize, second: usize) -> u16
