@@ -106,6 +106,7 @@ impl<'a> Rest<'a> {
                 }
                 section = Some(Section::begin(heap, Some(name)));
             } else if says_something(line) {
+                // A value and no closure, whose result would name a lifetime: that gets no proof.
                 section
                     .get_or_insert(Section::begin(heap, None))
                     .take(number, line)?;
