@@ -6,4 +6,3 @@ pub mod Searches
 pub mod Opening
 pub mod Crowds
 pub mod Sharing
-pub mod Made
