@@ -8,7 +8,7 @@ use texts::Reader;
 // More junctions than any family has.
 const MANY: u32 = 100_000;
 
-#[derive(Clone, Copy)]
+#[derive(Clone, Copy, Debug, PartialEq, Eq)]
 pub struct Known {
     pub junction: Junction,
     // What the worst-off stream has to spare at best, or none.

@@ -4,6 +4,7 @@ ghost use Rattle.groups.specs.Groups.{other};
 ghost use Rattle.groups.specs.Members.{member_of};
 
 use crate::members::Group;
+use greens::MOST_STREAMS;
 
 impl Group {
     // Without any member.
@@ -11,7 +12,7 @@ impl Group {
         ensures { (k : ℕ) → member_of result k ≡ false }
     {
         Group {
-            member: [false; 12],
+            member: [false; MOST_STREAMS],
         }
     }
 
@@ -34,7 +35,7 @@ impl Group {
     pub fn join(&mut self, stream: usize)
         ensures { self.new.member ≡ slice_set self.old.member stream true }
     {
-        if stream < 12 {
+        if stream < MOST_STREAMS {
             self.member[stream] = true;
         }
     }

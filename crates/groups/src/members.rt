@@ -2,8 +2,10 @@
 // The junction and what is to be spared come with each question: a set is asked for many spares, so to hold them would be no plainer.
 ghost use Rattle.std.specs.Prelude.{◌≡◌, length};
 
+use greens::MOST_STREAMS;
+
 #[derive(Clone, Copy, Debug, PartialEq, Eq)]
 pub struct Group {
-    pub(crate) member: [bool; 12],
+    pub(crate) member: [bool; MOST_STREAMS],
     ghost sized: { length member ≡ 12 },
 }

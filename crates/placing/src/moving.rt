@@ -1,5 +1,5 @@
 // A bound moved, if that is news. Both answer an `Option<bool>`: with it `?` ends a step where a green can begin nowhere, and `|` joins what moved.
-// They are two, since only `raise` still has to see that the bounds leave a second. Callers have to prove that there is such a green: a test here made the search a tenth slower.
+// They are two, since only `raise` still has to see that the bounds leave a second. The casts are proved to lose nothing. Callers have to prove that there is such a green: a test here made the search a tenth slower.
 ghost use Rattle.std.specs.Prelude.{◌<◌, ◌⊎◌, MatchOption};
 ghost use Rattle.placing.specs.Bounds.{low_of, high_of, Raised, Lowered};
 ghost use Rattle.placing.specs.Sizes.{most_greens};

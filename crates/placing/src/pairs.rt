@@ -4,7 +4,7 @@ ghost use Rattle.placing.specs.Gaps.{gap_at};
 
 use crate::spacing::Gaps;
 
-#[derive(Clone, Copy)]
+#[derive(Clone, Copy, Debug)]
 pub struct Pair<'a> {
     pub(crate) gaps: &'a Gaps,
     pub(crate) first: usize,

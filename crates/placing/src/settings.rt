@@ -6,12 +6,12 @@ use crate::sizes::{MOST, PAIRS};
 use greens::Cycle;
 
 // Lists side by side: the clauses speak of each by itself, and a search begins with the first seconds as they stand.
-#[derive(Clone, Copy)]
+#[derive(Clone, Copy, Debug, PartialEq, Eq)]
 pub struct Setting {
     pub(crate) cycle: Cycle,
     pub(crate) count: usize,
     pub(crate) long: [u8; MOST],
-    // Row by row, a number for each green: 0 for two that don't cross, else one more than the seconds to clear after the row's before the column's.
+    // Row by row, a number for each green, as a junction hands its rows on: 0 for two that don't cross, else one more than the seconds to clear after the row's before the column's.
     pub(crate) table: [u8; PAIRS],
     pub(crate) lowest: [u8; MOST],
     pub(crate) highest: [u8; MOST],

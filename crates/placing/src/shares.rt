@@ -3,6 +3,7 @@ ghost use Rattle.std.specs.Prelude.{◌≡◌, [], false, slice_index, slice_ind
 
 use crate::sizes::MOST;
 
+// A set of its own: that of the layer of groups knows junctions, and no more than these two lines would be shared.
 #[derive(Clone, Copy, Debug, Default, PartialEq, Eq)]
 pub struct Group {
     pub(crate) member: [bool; MOST],
@@ -25,6 +26,7 @@ impl Group {
 }
 
 // A row for each green, in it a number for each: by how much the row's begins before the column's, or before its next turn.
+// Not one type with the gaps, whose numbers are smaller: a generic struct can't hold arrays of its parameter.
 #[derive(Clone, Copy, Debug, PartialEq, Eq)]
 pub struct Spans {
     pub(crate) span: [[u32; MOST]; MOST],

@@ -5,11 +5,11 @@ ghost use Rattle.placing.specs.Sizes.{most_greens};
 use crate::sizes::MOST;
 use greens::Cycle;
 
-#[derive(Clone, Copy)]
+#[derive(Clone, Copy, Debug, PartialEq, Eq)]
 pub struct Gaps {
     pub(crate) cycle: Cycle,
     pub(crate) count: usize,
-    // A row for each green, in it a number for each: 0 for two that may be on together.
+    // A row for each green, in it a number for each: 0 for two that may be on together, since a distance of 0 asks for nothing.
     pub(crate) gap: [[u16; MOST]; MOST],
     ghost few: { count ≤ most_greens },
     ghost sized: { length gap ≡ most_greens },

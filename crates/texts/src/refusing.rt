@@ -14,6 +14,7 @@ use std::alloc::AllocError;
 // Why a section is refused.
 fn say_why(out: &mut Vec<u8>, section: &Section<'_>, refusal: Refusal) -> Result<(), AllocError> {
     let draft = &section.draft;
+    // The casts are proved to lose nothing; `try_from` would ask for an arm that can't happen.
     match refusal {
         Refusal::Cycle(seconds) => say_cycle(out, seconds),
         Refusal::Streams(place) => say_streams(

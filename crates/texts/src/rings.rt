@@ -54,6 +54,7 @@ fn put_mark(out: &mut Vec<u8>, tens: u8) -> Result<(), AllocError>
     write!(out, "{}", last + 10)
 }
 
+// A loop and no chain: of what a closure changes nothing would be known after it.
 fn put_marks(out: &mut Vec<u8>, tens: u8) -> Result<(), AllocError>
     ensures { OnOk result (Adds out.old.items out.new.items (marks_to tens)) }
 {
