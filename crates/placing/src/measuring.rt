@@ -32,10 +32,9 @@ impl Setting {
     fn are_tied(&self, first: usize, second: usize) -> bool
         ensures { first < most_greens → second < most_greens → result ≡ tied (task_of self.now) first second }
     {
-        first != second
-            && self.long(first) > 0
-            && self.long(second) > 0
-            && (self.entry(first, second) > 0 || self.entry(second, first) > 0)
+        // `&` and no `&&`: with a branch for each of 144 pairs the search of a small junction took a fifth longer.
+        let cross = (self.entry(first, second) > 0) | (self.entry(second, first) > 0);
+        (first != second) & ((self.long(first) > 0) & ((self.long(second) > 0) & cross))
     }
 
     fn gap(&self, first: usize, second: usize) -> u16
