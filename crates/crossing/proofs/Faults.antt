@@ -1,5 +1,5 @@
 -- Faults of a table, looked for row by row.
-use Rattle.std.proofs.Common.{◌≡◌, ℕ, ◌+◌, ◌*◌, ◌<◌, Bool, true, false, eqb, List, Option, Some, None, length, get_or, refl, sym, ap, subst, ◌∙◌, arith}
+use Rattle.std.proofs.Common.{◌≡◌, ℕ, ◌+◌, ◌*◌, ◌<◌, Bool, true, false, eqb, List, Option, Some, None, get_or, refl, sym, ap, subst, ◌∙◌, arith}
 use Rattle.std.specs.Prelude.{MatchOption, is_some}
 use Rattle.std.specs.Option.{option_map, option_and_then}
 use Rattle.std.proofs.lemmas.Bool.{both_ways}
@@ -9,10 +9,10 @@ use Rattle.crossing.proofs.Below.{found_says, found_in}
 use Rattle.crossing.proofs.Rows.{row_entry, row_ends}
 
 -- a row's number and the one the other way tell whether the table is at fault there
-pub fault_row : (row table : List ℕ) (a b : ℕ) → row ≡ row_of (length row) table a → b < length row →
-    at_fault (eqb a b) (get_or row b 0) (get_or table (b * length row + a) 0) ≡ fault (length row) table a b
-fault_row row table a b is within =
-    ap (λ x. at_fault (eqb a b) x (get_or table (b * length row + a) 0)) (ap (λ r. get_or r b 0) is ∙ row_entry (length row) table a b within)
+pub fault_row : (n : ℕ) (row table : List ℕ) (a b : ℕ) → row ≡ row_of n table a → b < n →
+    at_fault (eqb a b) (get_or row b 0) (get_or table (b * n + a) 0) ≡ fault n table a b
+fault_row n row table a b is within =
+    ap (λ x. at_fault (eqb a b) x (get_or table (b * n + a) 0)) (ap (λ r. get_or r b 0) is ∙ row_entry n table a b within)
 
 -- the place of row b, column a lies in the table
 pub place_within : (n a b : ℕ) → a < n → b < n → b * n + a < n * n

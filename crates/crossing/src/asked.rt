@@ -4,7 +4,7 @@ ghost use Rattle.std.specs.Result.{result_err};
 ghost use Rattle.crossing.specs.Numbers.{room_refusal};
 ghost use Rattle.crossing.specs.Taken.{stream_of, clearing_of, row_in, seconds_in};
 
-use crate::junctions::{Junction, Stream, row_at};
+use crate::junctions::{Junction, Stream, Table};
 use crate::refusals::Refusal;
 use greens::Cycle;
 
@@ -37,7 +37,11 @@ impl Junction {
         ensures { result.now ≡ row_in self.now stream }
     {
         if stream < self.count {
-            row_at(&self.table, self.count, stream)
+            let table = Table {
+                numbers: &self.table,
+                width: self.count,
+            };
+            table.row(stream)
         } else {
             &[]
         }

@@ -1,5 +1,5 @@
 // A junction: a cycle, its streams, and for each two of them whether they cross and what has to be clear between their greens.
-ghost use Rattle.std.specs.Prelude.{◌≡◌, ◌*◌, ◌<◌, ◌≤◌, true, length};
+ghost use Rattle.std.specs.Prelude.{◌≡◌, ◌*◌, ◌<◌, ◌≤◌, true, length, MatchOption};
 ghost use Rattle.crossing.specs.Tables.{both_ways, row_of};
 
 use greens::{Cycle, MOST_STREAMS};
@@ -27,14 +27,32 @@ pub struct Junction {
     ghost both: { both_ways count table ≡ true },
 }
 
-// A row of a table with a number for each two of n streams.
-pub(crate) fn row_at(table: &[u8], n: usize, a: usize) -> &[u8]
-    requires few { n ≤ 12 }
-    requires whole { n * n ≤ length table.now }
-    requires there { a < n }
-    ensures row { result.now ≡ row_of n table.now a }
-    ensures len { length result.now ≡ n }
-{
-    let start = a * n;
-    &table[start..start + n]
+// A table with a number for each two of so many streams, row by row; there may be more numbers past its last row.
+#[derive(Clone, Copy)]
+pub(crate) struct Table<'a> {
+    pub(crate) numbers: &'a [u8],
+    pub(crate) width: usize,
+    ghost whole: { width * width ≤ length numbers.now },
+}
+
+impl<'a> Table<'a> {
+    // The table that the numbers are; none where they are more or fewer.
+    pub(crate) fn new(numbers: &'a [u8], width: usize) -> Option<Table<'a>>
+        ensures { MatchOption result (length numbers.now ≡ width * width → ⊥) (λ t. (length numbers.now ≡ width * width) × (t.numbers.now ≡ numbers.now) × (t.width ≡ width)) }
+    {
+        if width.checked_mul(width) == Some(numbers.len()) {
+            Some(Table { numbers, width })
+        } else {
+            None
+        }
+    }
+
+    pub(crate) fn row(&self, a: usize) -> &'a [u8]
+        requires there { a < self.now.width }
+        ensures row { result.now ≡ row_of self.now.width self.now.numbers.now a }
+        ensures len { length result.now ≡ self.now.width }
+    {
+        let start = a * self.width;
+        &self.numbers[start..start + self.width]
+    }
 }

@@ -1,11 +1,10 @@
 // A junction read from numbers, or the first refusal that applies to them.
-ghost use Rattle.std.specs.Prelude.{◌≡◌, ℕ, ◌+◌, ◌*◌, ◌<◌, ◌≤◌, length, slice_index, slice_index_or};
+ghost use Rattle.std.specs.Prelude.{◌≡◌, ℕ, ◌<◌, ◌≤◌, length, slice_index, slice_index_or};
 ghost use Rattle.std.specs.Result.{result_err};
 ghost use Rattle.crossing.specs.Numbers.{first_above, at_fault, faulty_column, faulty_place, streams_refusal, table_refusal};
-ghost use Rattle.crossing.specs.Tables.{row_of};
 ghost use Rattle.crossing.specs.Taken.{Read, no_stream, stream_in};
 
-use crate::junctions::{Junction, MOST_NUMBERS, Stream, row_at};
+use crate::junctions::{Junction, MOST_NUMBERS, Stream, Table};
 use crate::refusals::Refusal;
 use greens::{Cycle, MOST_SECONDS, MOST_STREAMS};
 use std::array;
@@ -43,38 +42,33 @@ fn at_fault(itself: bool, number: u8, back: u8) -> bool
         || (number == 0 && back > 0)
 }
 
-// The first column at fault in a row of the table, if there is one.
-fn faulty_column(row: &[u8], table: &[u8], a: usize) -> Option<usize>
-    requires sized { length table.now ≡ length row.now * length row.now }
-    requires there { a < length row.now }
-    requires is { row.now ≡ row_of (length row.now) table.now a }
-    ensures { result ≡ faulty_column (length row.now) table.now a }
-{
-    let n = row.len();
-    (0..n).find(|&b| at_fault(a == b, row[b], table[b * n + a]))
-}
+impl<'a> Table<'a> {
+    // The first column at fault in a row, if there is one.
+    fn faulty_column(&self, a: usize) -> Option<usize>
+        requires there { a < self.now.width }
+        ensures { result ≡ faulty_column self.now.width self.now.numbers.now a }
+    {
+        let row = self.row(a);
+        (0..self.width).find(|&b| at_fault(a == b, row[b], self.numbers[b * self.width + a]))
+    }
 
-// The place of the first number at fault, row by row, if there is one.
-fn faulty_place(n: usize, table: &[u8]) -> Option<usize>
-    requires few { n ≤ 12 }
-    requires sized { length table.now ≡ n * n }
-    ensures { result ≡ faulty_place n table.now }
-{
-    (0..n).find_map(|a| {
-        let b = faulty_column(row_at(table, n, a), table, a)?;
-        Some(a * n + b)
-    })
+    // The place of the first number at fault, row by row, if there is one.
+    fn faulty_place(&self) -> Option<usize>
+        ensures { result ≡ faulty_place self.now.width self.now.numbers.now }
+    {
+        (0..self.width).find_map(|a| {
+            let b = self.faulty_column(a)?;
+            Some(a * self.width + b)
+        })
+    }
 }
 
 // Whether the table is taken, or why it isn't.
-fn check_table(n: usize, table: &[u8]) -> Result<(), Refusal>
-    requires { n ≤ 12 }
-    ensures { result_err result ≡ table_refusal n table.now }
+fn check_table(streams: usize, numbers: &[u8]) -> Result<(), Refusal>
+    ensures { result_err result ≡ table_refusal streams numbers.now }
 {
-    if table.len() != n * n {
-        return Err(Refusal::Table(table.len() as u64));
-    }
-    match faulty_place(n, table) {
+    let table = Table::new(numbers, streams).ok_or(Refusal::Table(numbers.len() as u64))?;
+    match table.faulty_place() {
         Some(place) => Err(Refusal::Table(place as u64)),
         None => Ok(()),
     }
