@@ -18,6 +18,7 @@ pub enum Refusal {
 }
 
 impl Refusal {
+    // The number that the entry answers for it.
     pub fn number(self) -> u64
         ensures { result ≡ number_of self }
     {
