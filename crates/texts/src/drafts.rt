@@ -1,7 +1,7 @@
 // What the lines of a junction said so far.
 
 // The table's number for two streams, in this order.
-#[derive(Clone, Copy)]
+#[derive(Clone, Copy, Debug, PartialEq, Eq)]
 pub struct Clearing {
     pub first: usize,
     pub next: usize,

@@ -6,7 +6,7 @@ ghost use Rattle.texts.specs.Lines.{lasts, with_number, line_in, numbered_stream
 use crate::wording::{number, same};
 
 // What is wrong with a line, in the words of the text.
-#[derive(Clone, Copy)]
+#[derive(Clone, Copy, Debug, PartialEq, Eq)]
 pub enum Fault<'a> {
     // It is of no kind.
     NoKind,
@@ -25,7 +25,7 @@ pub enum Fault<'a> {
 }
 
 // What a line says, where nothing is wrong with it.
-#[derive(Clone, Copy)]
+#[derive(Clone, Copy, Debug, PartialEq, Eq)]
 pub enum Line<'a> {
     Nothing,
     Junction(&'a [u8]),

@@ -3,7 +3,7 @@ use crate::drafts::Draft;
 use crate::saying::Fault;
 
 // The line at which a junction can't be read, and what is wrong with it.
-#[derive(Clone, Copy)]
+#[derive(Clone, Copy, Debug, PartialEq, Eq)]
 pub struct Stop<'a> {
     pub line: u64,
     pub fault: Fault<'a>,

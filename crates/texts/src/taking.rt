@@ -10,7 +10,7 @@ use crate::wording::same;
 use std::alloc::{AllocError, AllocFailed, Global};
 
 // Why a line is not taken.
-#[derive(Clone, Copy)]
+#[derive(Clone, Copy, Debug, PartialEq, Eq)]
 pub enum Untaken<'a> {
     Fault(Fault<'a>),
     Memory(AllocError),
