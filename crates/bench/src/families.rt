@@ -17,7 +17,7 @@ impl Sums {
             self.right = self.right.saturating_add(1);
         }
         match spare {
-            Some(spare) => self.spare = self.spare.saturating_add(spare as u32),
+            Some(spare) => self.spare = self.spare.saturating_add(u32::from(spare)),
             None => self.none = self.none.saturating_add(1),
         }
     }
@@ -40,14 +40,14 @@ pub(crate) fn run(rt: &HostRuntime, name: &str, rounds: u32) -> anyhow::Result<(
     let mut sums = Sums::default();
     let mut times = Vec::new(rt.alloc());
     let mut marks: u64 = 0;
-    for known in &family {
-        let timed = time(rt, &known.junction, rounds)?;
-        sums.add(timed.spare, known.spare);
+    for (junction, known) in family.junctions.iter().zip(family.answers.iter()) {
+        let timed = time(rt, junction, rounds)?;
+        sums.add(timed.spare, *known);
         marks = marks.wrapping_add(timed.mark);
         times.push(timed.nanos)?;
     }
     times.sort_unstable();
-    let count = family.len();
+    let count = family.junctions.len();
     let Sums { right, none, spare } = sums;
     println!(rt;
         "{name}: {count} junctions, {right} right, {none} without a plan, {spare} to spare in all"

@@ -22,7 +22,7 @@ impl Junction {
         self.count
     }
 
-    // A stream; past the last one that nobody uses. What is past the end is all that this has of its own, so it shares nothing with the reading of other lists.
+    // A stream; past the last one that nobody uses. One line of its own, as wherever a list is read by number: a shared one would be longer.
     pub fn stream(&self, stream: usize) -> Stream
         ensures { result ≡ stream_of self.now stream }
     {

@@ -18,6 +18,7 @@ pub struct Stream {
 #[derive(Clone, Copy, Debug, PartialEq, Eq)]
 pub struct Junction {
     pub(crate) cycle: Cycle,
+    // How many there are, of the twelve that lie here by value: memory is fixed, and no heap is asked.
     pub(crate) count: usize,
     pub(crate) streams: [Stream; MOST_STREAMS],
     // Row by row, `count` numbers each, as they were lent: 0 for two that don't cross, else one more than the seconds to clear after the row's before the column's.

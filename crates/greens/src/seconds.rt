@@ -16,7 +16,7 @@ impl Cycle {
     pub fn new(seconds: u64) -> Option<Cycle>
         ensures { MatchOption result ((1 ≤ seconds) × (seconds ≤ 120) → ⊥) (λ c. c.seconds ≡ seconds) }
     {
-        if seconds >= 1 && seconds <= MOST_SECONDS as u64 {
+        if seconds >= 1 && seconds <= u64::from(MOST_SECONDS) {
             Some(Cycle {
                 seconds: seconds as u8,
             })
@@ -35,7 +35,7 @@ impl Cycle {
     pub fn later(self, second: u8, by: u8) -> u8
         ensures { result ≡ (second + by) % self.seconds }
     {
-        ((second as u16 + by as u16) % self.seconds as u16) as u8
+        ((u16::from(second) + u16::from(by)) % u16::from(self.seconds)) as u8
     }
 
     // How many seconds after `from` a second comes, round the cycle's end.

@@ -1,4 +1,4 @@
-// What a junction asks of a stream and of two.
+// What a junction asks of a stream and of two. Callers go over the junction's own streams: of one past the last nothing is promised, and a pair with its bounds for each question would be no plainer.
 ghost use Rattle.std.specs.Prelude.{◌≡◌, ◌+◌, ◌<◌, ◌≤◌};
 ghost use Rattle.crossing.specs.Taken.{site_of};
 ghost use Rattle.groups.specs.Groups.{asked};
@@ -11,8 +11,8 @@ pub fn asked(junction: &Junction, spare: u8, stream: usize) -> u16
     ensures most { result ≤ 510 }
 {
     let ends = junction.stream(stream);
-    let wanted = ends.comes as u16 + spare as u16;
-    wanted.max(ends.least as u16)
+    let wanted = u16::from(ends.comes) + u16::from(spare);
+    wanted.max(u16::from(ends.least))
 }
 
 // Whether two streams of the junction cross.

@@ -15,7 +15,7 @@ impl Group {
     pub fn is_overfull(&self, junction: &Junction, spare: u8) -> bool
         ensures { result ≡ overfull (site_of junction.now) spare (member_of self.now) }
     {
-        let cycle = junction.cycle().seconds() as u16;
+        let cycle = u16::from(junction.cycle().seconds());
         self.all_cross(junction)
             && self.all_want(junction, spare)
             && self.need(junction, spare) > cycle

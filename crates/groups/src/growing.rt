@@ -48,7 +48,7 @@ impl<'a> Crowd<'a> {
     // Whether the group seems overfull with all that may come in from the stream `next` on, if every stream is to have so much to spare.
     // No group between the two needs more: as a group grows, what has to be clear gets less.
     pub(crate) fn seems_full(&self, next: usize, spare: u8) -> bool {
-        let cycle = self.junction.cycle().seconds() as u16;
+        let cycle = u16::from(self.junction.cycle().seconds());
         let mut sum = 0;
         for (stream, gap) in self.gaps.iter().enumerate() {
             let member = self.group.has(stream);
@@ -58,7 +58,7 @@ impl<'a> Crowd<'a> {
                 match asking::asked(self.junction, spare, stream) {
                     0 if member => return false,
                     0 => {}
-                    long => sum += (long + *gap as u16).min(cycle),
+                    long => sum += (long + u16::from(*gap)).min(cycle),
                 }
             }
         }

@@ -17,7 +17,7 @@ impl Group {
         ensures most { result ≤ 765 }
     {
         if self.has(stream) {
-            asking::asked(junction, spare, stream) + self.gap(junction, stream) as u16
+            asking::asked(junction, spare, stream) + u16::from(self.gap(junction, stream))
         } else {
             0
         }

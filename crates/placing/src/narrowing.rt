@@ -38,7 +38,7 @@ impl Pair<'_> {
 }
 
 impl Gaps {
-    // Narrows the bounds of any two greens once. No `try_fold`: it would hand on the bounds by value from pair to pair.
+    // Narrows the bounds of any two greens once. Two loops: a `try_fold` in a `try_fold`, which hand on whether something moved, would be no plainer.
     fn go_round(&self, bounds: &mut Bounds) -> Option<bool>
         ensures { MatchOption result (Nobody self.now bounds.old) (λ moved. Round self.now bounds.old bounds.new self.now.count moved) }
     {

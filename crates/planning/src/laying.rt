@@ -9,7 +9,7 @@ use crossing::Junction;
 use groups::asked;
 use placing::Setting;
 
-// Writes the junction's table: row by row, what has to be clear after a stream. The rows are asked for by stream, and no list is read by its number.
+// Writes the junction's table: row by row, what has to be clear after a stream. A loop over the streams: a `for_each` that writes the setting would be no plainer.
 fn write_table(setting: &mut Setting, junction: &Junction)
     ensures { RowsWritten setting.old setting.new junction.now.count junction.now.table junction.now.count }
 {
@@ -20,7 +20,7 @@ fn write_table(setting: &mut Setting, junction: &Junction)
     }
 }
 
-// Lets each of the junction's greens but the anchor begin in any second. A setting is written green by green.
+// Lets each of the junction's greens but the anchor begin in any second. A loop too, for the same reason.
 fn open_windows(setting: &mut Setting, junction: &Junction, anchor: usize)
     ensures { Opened setting.old setting.new anchor (junction.now.cycle.seconds - 1) junction.now.count }
 {
@@ -88,7 +88,7 @@ impl<'a> Ground<'a> {
         ensures { MatchOption result (Overlong (site_of self.now.junction.now) spare) (λ t. Lengthened (site_of self.now.junction.now) spare self.now.setting t self.now.junction.now.count) }
     {
         let mut longer = self.setting;
-        // Green by green, as a setting is written.
+        // A loop with `?`: a `try_fold` would hand on the whole setting.
         for stream in 0..self.junction.streams() {
             longer.set_long(stream, asked_within(self.junction, spare, stream)?);
         }

@@ -40,7 +40,7 @@ fn put_stream(out: &mut Vec<u8>, name: &[u8], green: Green) -> Result<(), AllocE
     out.put(b", ")
 }
 
-// A piece of text for each stream, by its name and its green.
+// A piece of text for each stream, by its name and its green. The names are lent by a junction of a text and the plan by the search: a struct of both would be made for one call.
 pub(crate) fn put_each<F: Fn(&mut Vec<u8>, &[u8], Green) -> Result<(), AllocError>>(
     out: &mut Vec<u8>,
     names: &[&[u8]],

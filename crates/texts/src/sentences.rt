@@ -52,7 +52,7 @@ fn say_above(out: &mut Vec<u8>, number: Option<u8>) -> Result<(), AllocError> {
     }
 }
 
-// Why a cycle is refused.
+// Why a cycle is refused; the largest number stands for all that the machine doesn't hold, as where texts are read.
 pub(crate) fn say_cycle(out: &mut Vec<u8>, seconds: u64) -> Result<(), AllocError> {
     match seconds {
         0 => out.put(b"cycle is 0, below 1"),
@@ -113,20 +113,18 @@ fn say_pair(
     out: &mut Vec<u8>,
     first: &[u8],
     next: &[u8],
-    number: u8,
-    back: u8,
+    number: Option<u8>,
+    back: Option<u8>,
 ) -> Result<(), AllocError> {
-    if number > 121 {
-        say(out, &[b"what is clear after ", first, b" before ", next])?;
-        return say_above(out, (number < 255).then(|| number - 1));
+    match (number, back) {
+        (Some(number), _) if number > 121 => {
+            say(out, &[b"what is clear after ", first, b" before ", next])?;
+            say_above(out, (number < 255).then(|| number - 1))
+        }
+        (_, None) => say_one_way(out, first, next),
+        (None, Some(_)) => say_one_way(out, next, first),
+        (Some(_), Some(_)) => say(out, &[first, b" crosses itself"]),
     }
-    if back == 0 {
-        return say_one_way(out, first, next);
-    }
-    if number == 0 {
-        return say_one_way(out, next, first);
-    }
-    say(out, &[first, b" crosses itself"])
 }
 
 // Why the table is refused at a place, row by row.
@@ -141,8 +139,8 @@ pub(crate) fn say_table(
     }
     let first = place / names.len();
     let next = place % names.len();
-    let number = number_said(clearings, first, next).unwrap_or(0);
-    let back = number_said(clearings, next, first).unwrap_or(0);
+    let number = number_said(clearings, first, next);
+    let back = number_said(clearings, next, first);
     say_pair(
         out,
         name_at(names, first),

@@ -44,7 +44,7 @@ fn place_of(names: &[&[u8]], name: &[u8]) -> Option<usize>
     names.iter().position(|&other| same(other, name))
 }
 
-// The table's number for two streams, in this order, if something was said of them.
+// The table's number for two streams, in this order, if something was said of them. Looked for from the front: they are few, and a map by two streams would be no plainer.
 pub(crate) fn number_said(clearings: &[Clearing], first: usize, next: usize) -> Option<u8>
     ensures { result ≡ number_said clearings.now first next }
 {

@@ -58,6 +58,7 @@ pub(crate) fn number(word: &[u8]) -> Option<u64>
         return None;
     }
     let mut sum: u64 = 0;
+    // A loop that ends at the first byte that is no digit: a `try_fold` would be no plainer.
     for &byte in word {
         if !byte.is_ascii_digit() {
             return None;

@@ -22,7 +22,7 @@ impl Dice {
             .state
             .wrapping_mul(6364136223846793005)
             .wrapping_add(1442695040888963407);
-        ((self.state >> 33) % (most as u64 + 1)) as u8
+        ((self.state >> 33) % (u64::from(most) + 1)) as u8
     }
 }
 
@@ -84,7 +84,7 @@ fn crossings(heap: Global, dice: &mut Dice, streams: u8, cycle: u8) -> Result<Ve
     let mut table = Vec::new(heap);
     for a in 0..streams {
         for b in 0..streams {
-            let crossing = a != b && crosses[(a + b) as usize];
+            let crossing = a != b && crosses[usize::from(a + b)];
             table.push(if crossing { dice.roll(most) + 1 } else { 0 })?;
         }
     }

@@ -99,7 +99,7 @@ pub fn answer_all(heap: Global, text: &[u8], drawn: bool) -> Result<Answer, Allo
     let mut refused = false;
     while let Some(section) = reader.next(heap)? {
         let one = put_section(&mut out, &section, drawn)?;
-        refused = refused | one;
+        refused |= one;
     }
     Ok(Answer {
         bytes: out,
