@@ -8,8 +8,8 @@ use greens::{Cycle, Green};
 pub fn too_close(cycle: Cycle, clear: u8, first: Green, next: Green, second: u8) -> bool
     ensures { result ≡ close cycle.seconds clear first next second }
 {
-    let since = cycle.after(first.from, second) as u16;
-    let taken = first.long as u16 + clear as u16;
+    let since = u16::from(cycle.after(first.from, second));
+    let taken = u16::from(first.long) + u16::from(clear);
     (first.long > 0) & (next.on(cycle, second) & (since < taken))
 }
 

@@ -17,6 +17,7 @@ impl Cycle {
         ensures { MatchOption result ((1 ≤ seconds) × (seconds ≤ 120) → ⊥) (λ c. c.seconds ≡ seconds) }
     {
         if seconds >= 1 && seconds <= u64::from(MOST_SECONDS) {
+            // Proved to lose nothing, as each cast that narrows: `try_from` would ask for an arm that can't happen.
             Some(Cycle {
                 seconds: seconds as u8,
             })
