@@ -1,6 +1,6 @@
 -- The junctions of a text printed one after the other.
 use Rattle.std.proofs.Common.{◌≡◌, ℕ, Bool, true, false, cond, ◌||◌, List, [], ◌∷◌, ◌++◌, Option, sym, refl, ap, ◌∙◌, subst, subst₂}
-use Rattle.std.proofs.lemmas.List.{append_assoc, append-nil}
+use Rattle.std.proofs.lemmas.List.{append_assoc}
 use Rattle.greens.specs.declared.plans.Plan.{Plan}
 use Rattle.greens.specs.declared.seconds.Cycle.{Cycle}
 use Rattle.greens.specs.Plans.{green_of}
@@ -36,9 +36,6 @@ all_push [] t drawn before middle after refused one all here =
 all_push (d ∷ ds) t drawn before middle after refused one all here =
     (all.0, all.1, all.2 || one, all.3, all_push ds t drawn all.0 middle after all.2 one all.4 here, or_assoc all.1 all.2 one refused all.5)
 
-pub sofar_none : (all : List Told) (drawn : Bool) (out : List ℕ) (left : List Told) → out ≡ [] → left ≡ all → Sofar all drawn out false left
-sofar_none all drawn out left empty is = record { done = []; split = sym is; printed = (empty, refl) }
-
 pub sofar_more : (all : List Told) (drawn : Bool) (out next : List ℕ) (refused one : Bool) (left rest : List Told) (t : Told) → Sofar all drawn out refused left → left ≡ t ∷ rest →
     Printed t drawn out next one → Sofar all drawn next (refused || one) rest
 sofar_more all drawn out next refused one left rest t before is here = record {
@@ -46,11 +43,6 @@ sofar_more all drawn out next refused one left rest t before is here = record {
   split = before.split ∙ (ap (λ (l : List Told). before.done ++ l) is ∙ sym (append_assoc before.done (t ∷ []) rest));
   printed = all_push before.done t drawn [] out next refused one before.printed here;
 }
-
-pub sofar_all : (all : List Told) (drawn : Bool) (out : List ℕ) (refused : Bool) (left : List Told) → Sofar all drawn out refused left → left ≡ [] → AllPrinted all drawn [] out refused
-sofar_all all drawn out refused left before is =
-    let whole : all ≡ before.done = before.split ∙ (ap (λ (l : List Told). before.done ++ l) is ∙ append-nil before.done) in
-    subst (λ (l : List Told). AllPrinted l drawn [] out refused) (sym whole) before.printed
 
 -- an answer line and its rings, if they were drawn, are what is printed for a best plan
 pub planned_in : (t : Told) (drawn : Bool) (j : Junction) (p : Plan) (w : ℕ) (before middle after : List ℕ) (title : Option (List ℕ)) (names again : List (List ℕ)) (cycle : Cycle) →
