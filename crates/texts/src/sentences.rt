@@ -1,4 +1,7 @@
-// Why a junction is refused, in the words of its text.
+// Why a junction is refused, in the words of its text. What was printed before stays as it was.
+ghost use Rattle.std.specs.Prelude.{OnOk};
+ghost use Rattle.texts.specs.Printed.{Grows};
+
 use crate::drafts::Clearing;
 use crate::printing::Page;
 use crate::saying::Fault;
@@ -7,7 +10,9 @@ use crate::taking::number_said;
 use std::alloc::AllocError;
 
 // Words of the text and our own, one after the other.
-fn say(out: &mut Vec<u8>, pieces: &[&[u8]]) -> Result<(), AllocError> {
+fn say(out: &mut Vec<u8>, pieces: &[&[u8]]) -> Result<(), AllocError>
+    ensures { OnOk result (Grows out.old.items out.new.items) }
+{
     for piece in pieces {
         out.put(piece)?;
     }
@@ -15,7 +20,9 @@ fn say(out: &mut Vec<u8>, pieces: &[&[u8]]) -> Result<(), AllocError> {
 }
 
 // What is wrong with a line.
-fn say_fault(out: &mut Vec<u8>, fault: Fault<'_>) -> Result<(), AllocError> {
+fn say_fault(out: &mut Vec<u8>, fault: Fault<'_>) -> Result<(), AllocError>
+    ensures { OnOk result (Grows out.old.items out.new.items) }
+{
     match fault {
         Fault::NoKind => out.put(
             b"this line is none of: junction NAME, cycle SECONDS, NAME least SECONDS comes COUNT, NAME SECONDS NAME",
@@ -37,7 +44,9 @@ fn say_fault(out: &mut Vec<u8>, fault: Fault<'_>) -> Result<(), AllocError> {
     }
 }
 
-pub(crate) fn say_stop(out: &mut Vec<u8>, stop: Option<Stop<'_>>) -> Result<(), AllocError> {
+pub(crate) fn say_stop(out: &mut Vec<u8>, stop: Option<Stop<'_>>) -> Result<(), AllocError>
+    ensures { OnOk result (Grows out.old.items out.new.items) }
+{
     match stop {
         Some(stopped) => say_fault(out, stopped.fault),
         None => out.put(b"the text is read otherwise"),
@@ -45,7 +54,9 @@ pub(crate) fn say_stop(out: &mut Vec<u8>, stop: Option<Stop<'_>>) -> Result<(), 
 }
 
 // A number that is too large; one that a byte can't hold is not repeated.
-fn say_above(out: &mut Vec<u8>, number: Option<u8>) -> Result<(), AllocError> {
+fn say_above(out: &mut Vec<u8>, number: Option<u8>) -> Result<(), AllocError>
+    ensures { OnOk result (Grows out.old.items out.new.items) }
+{
     match number {
         Some(number) => write!(out, " is {number}, above 120"),
         None => out.put(b" is above 120"),
@@ -53,7 +64,9 @@ fn say_above(out: &mut Vec<u8>, number: Option<u8>) -> Result<(), AllocError> {
 }
 
 // Why a cycle is refused; the largest number stands for all that the machine doesn't hold, as where texts are read.
-pub(crate) fn say_cycle(out: &mut Vec<u8>, seconds: u64) -> Result<(), AllocError> {
+pub(crate) fn say_cycle(out: &mut Vec<u8>, seconds: u64) -> Result<(), AllocError>
+    ensures { OnOk result (Grows out.old.items out.new.items) }
+{
     match seconds {
         0 => out.put(b"cycle is 0, below 1"),
         u64::MAX => out.put(b"cycle is above 120"),
@@ -71,7 +84,9 @@ pub(crate) fn say_streams(
     names: &[&[u8]],
     figures: &[u8],
     place: usize,
-) -> Result<(), AllocError> {
+) -> Result<(), AllocError>
+    ensures { OnOk result (Grows out.old.items out.new.items) }
+{
     let count = names.len();
     if count == 0 {
         return out.put(b"there is no stream");
@@ -92,7 +107,9 @@ pub(crate) fn say_streams(
 }
 
 // Two cross, and nothing is said the other way.
-fn say_one_way(out: &mut Vec<u8>, first: &[u8], next: &[u8]) -> Result<(), AllocError> {
+fn say_one_way(out: &mut Vec<u8>, first: &[u8], next: &[u8]) -> Result<(), AllocError>
+    ensures { OnOk result (Grows out.old.items out.new.items) }
+{
     say(
         out,
         &[
@@ -115,7 +132,9 @@ fn say_pair(
     next: &[u8],
     number: Option<u8>,
     back: Option<u8>,
-) -> Result<(), AllocError> {
+) -> Result<(), AllocError>
+    ensures { OnOk result (Grows out.old.items out.new.items) }
+{
     match (number, back) {
         (Some(number), _) if number > 121 => {
             say(out, &[b"what is clear after ", first, b" before ", next])?;
@@ -133,7 +152,9 @@ pub(crate) fn say_table(
     names: &[&[u8]],
     clearings: &[Clearing],
     place: usize,
-) -> Result<(), AllocError> {
+) -> Result<(), AllocError>
+    ensures { OnOk result (Grows out.old.items out.new.items) }
+{
     if names.is_empty() {
         return out.put(b"there is no stream");
     }
