@@ -1,6 +1,6 @@
 -- A text as lines, a line as words, and a word as a number. Assumes nothing: these are definitions.
-use Rattle.std.specs.Prelude.{ℕ, ◌+◌, ◌-◌, ◌*◌, min, Bool, cond, ◌&&◌, ◌||◌, List, [], ◌∷◌, ◌++◌, Some, None, Option, ◌==◌, nat_le}
-use Rattle.std.specs.List.{onto_first}
+use Rattle.std.specs.Prelude.{ℕ, ◌+◌, ◌-◌, ◌*◌, min, Bool, cond, not, ◌&&◌, ◌||◌, List, [], ◌∷◌, ◌++◌, Some, None, Option, ◌==◌, nat_le}
+use Rattle.std.specs.List.{onto_first, position_or_len}
 
 -- the lines of a text: a line ends at a byte 10 or at the text's end
 unfoldable pub lines : List ℕ → List (List ℕ)
@@ -24,6 +24,14 @@ words_from word (b ∷ bs) = cond (b == 35) (ended word) (cond (blank b) (ended 
 -- the words of a line
 abbrev pub words : List ℕ → List (List ℕ)
 words line = words_from [] line
+
+-- how many blanks a line begins with
+abbrev pub gap : List ℕ → ℕ
+gap bs = position_or_len (λ b. not (blank b)) bs
+
+-- how many bytes of a word a line begins with
+abbrev pub word_end : List ℕ → ℕ
+word_end bs = position_or_len (λ b. blank b || b == 35) bs
 
 abbrev pub digit : ℕ → Bool
 digit b = nat_le 48 b && nat_le b 57

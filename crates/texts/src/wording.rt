@@ -1,9 +1,9 @@
 // A text cut into lines, a line into words, and numbers read from words. Words are bytes and no `str`: a file may hold any bytes, and a name is printed as it stands.
-ghost use Rattle.std.specs.Prelude.{◌≡◌, ◌==◌, ◌-◌, ◌^◌, ◌<◌, ◌∷◌, length, map, IfOk};
+ghost use Rattle.std.specs.Prelude.{◌≡◌, ◌==◌, ◌-◌, ◌^◌, ◌<◌, ◌≤◌, [], ◌∷◌, length, map, IfOk, MatchOption};
 ghost use Rattle.std.specs.Option.{option_map};
 ghost use Rattle.std.specs.List.{before_first, after_first};
 ghost use Rattle.std.specs.Str.{bytes_eq};
-ghost use Rattle.texts.specs.Words.{blank, lines, words, number_in, capped};
+ghost use Rattle.texts.specs.Words.{blank, lines, gap, word_end, words, number_in, capped};
 
 use std::alloc::{AllocError, Global};
 
@@ -33,14 +33,48 @@ fn is_blank(byte: u8) -> bool
     matches!(byte, b' ' | b'\t' | b'\r')
 }
 
-// The words of a line.
+// How many blanks a line begins with.
+fn blanks(line: &[u8]) -> usize
+    ensures is { result ≡ gap line.now }
+    ensures within { result ≤ length line.now }
+{
+    let first = line.iter().position(|&byte| !is_blank(byte));
+    first.unwrap_or(line.len())
+}
+
+// How many bytes of a word a line begins with.
+fn word_end(line: &[u8]) -> usize
+    ensures is { result ≡ word_end line.now }
+    ensures within { result ≤ length line.now }
+{
+    let first = line.iter().position(|&byte| is_blank(byte) || byte == b'#');
+    first.unwrap_or(line.len())
+}
+
+// The first word of a line, and what follows it.
+fn next_word(line: &[u8]) -> Option<(&[u8], &[u8])>
+    ensures { MatchOption result (words line.now ≡ []) (λ p. (words line.now ≡ p.0.now ∷ words p.1.now) × (length p.1.now < length line.now)) }
+{
+    let rest = &line[blanks(line)..];
+    let end = word_end(rest);
+    if end == 0 {
+        None
+    } else {
+        Some((&rest[..end], &rest[end..]))
+    }
+}
+
+// The words of a line. A loop, word by word: a chain of `split` and `filter`, behind a search for the `#`, went over each byte once more, and made a piece of each blank.
 pub(crate) fn words_of<'a>(heap: Global, line: &'a [u8]) -> Result<Vec<&'a [u8]>, AllocError>
     ensures { IfOk result (λ v. map (λ x. x.now) v.items ≡ words line.now) }
 {
-    let (said, _) = cut_at(line, b'#');
-    said.split(|&byte| is_blank(byte))
-        .filter(|word| !word.is_empty())
-        .collect(heap)
+    let mut all = Vec::new(heap);
+    let mut rest = line;
+    while let Some((word, after)) = next_word(rest) {
+        all.push(word)?;
+        rest = after;
+    }
+    Ok(all)
 }
 
 // Whether two words are the same: `==` would take no byte string, which is an array, beside a slice.

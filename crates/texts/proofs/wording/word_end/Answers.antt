@@ -1,0 +1,12 @@
+use Rattle.std.proofs.Common.{◌||◌, eqb, rules, tests}
+use Rattle.std.proofs.lemmas.Iterator.{YieldsList-from_slice}
+use Rattle.std.proofs.lemmas.Iterator.Search.{position_from_yields_List}
+use Rattle.texts.specs.Words.{blank}
+use Rattle.texts.proofs.Splits.{first_or_all}
+use Rattle.texts.proofs.wording.word_end.Goals as goal
+
+pub returns-clause-is : goal.returns-clause-is
+returns-clause-is c =
+    first_or_all (λ b. blank b || eqb b 35) c.args.line.now _ c.position-first.result
+    (position_from_yields_List (λ b. blank b || eqb b 35) _ _ c.position-first.result c.position-first.ensures.ran (YieldsList-from_slice c.args.line.now cc) (λ x b q k. search (rules, tests)))
+    c.unwrap_or.ensures
