@@ -26,10 +26,12 @@ pub(crate) fn walk<Q: Quest>(quest: Q, crowd: &Crowd, next: usize, found: Q::Fou
     requires { Q.says (site_of crowd.now.junction.now) quest found }
     ensures { Q.says (site_of crowd.now.junction.now) quest result }
 {
-    let worth = quest
-        .sought(found)
-        .is_some_and(|spare| crowd.seems_full(next, spare));
-    if next >= crowd.junction.streams() || !worth {
+    // Past the last stream nothing is guessed: where many cross a third of all guesses would be made there.
+    let worth = next < crowd.junction.streams()
+        && quest
+            .sought(found)
+            .is_some_and(|spare| crowd.seems_full(next, spare));
+    if !worth {
         return found;
     }
     let found = if crowd.takes(next) {
