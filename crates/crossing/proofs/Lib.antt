@@ -3,7 +3,7 @@ pub mod Calm
 pub mod Clashes
 pub mod Faults
 pub mod Good
-pub mod Made
+pub mod Padded
 pub mod Queue
 pub mod Ranges
 pub mod Refused

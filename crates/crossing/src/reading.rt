@@ -83,12 +83,16 @@ fn number_at(numbers: &[u8], place: usize) -> u8
 
 // The streams by value, from two numbers each.
 fn streams_in(pairs: &[u8]) -> [Stream; MOST_STREAMS]
+    requires { length pairs.now ≤ 24 }
     ensures len { length result ≡ 12 }
     ensures each { (k : ℕ) → k < 12 → slice_index_or result k no_stream ≡ stream_in pairs.now k }
 {
+    // Copied first: of an array, unlike of a slice, the compiler sees that each place is there.
+    let mut numbers = [0; 2 * MOST_STREAMS];
+    numbers[..pairs.len()].copy_from_slice(pairs);
     array::from_fn(|k| Stream {
-        least: number_at(pairs, 2 * k),
-        comes: number_at(pairs, 2 * k + 1),
+        least: number_at(&numbers, 2 * k),
+        comes: number_at(&numbers, 2 * k + 1),
     })
 }
 
@@ -98,7 +102,9 @@ fn table_in(table: &[u8]) -> [u8; MOST_NUMBERS]
     ensures len { length result ≡ 144 }
     ensures each { (i : ℕ) → slice_index result i ≡ slice_index table.now i }
 {
-    array::from_fn(|place| number_at(table, place))
+    let mut numbers = [0; MOST_NUMBERS];
+    numbers[..table.len()].copy_from_slice(table);
+    numbers
 }
 
 impl Junction {

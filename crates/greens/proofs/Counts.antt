@@ -1,7 +1,9 @@
 -- Counting the seconds in which a green is on.
-use Rattle.std.proofs.Common.{◌≡◌, ℕ, zero, suc, ◌+◌, ◌-◌, ◌<◌, ◌≤◌, min, Bool, true, false, cond, ltb, length, refl, ⊎_elim, add-one, arith}
-use Rattle.std.specs.List.{filter, range_with_len}
-use Rattle.std.proofs.lemmas.Bool.{cond_both, cases_Bool, ltb-true, ltb-false}
+use Rattle.std.proofs.Common.{◌≡◌, ℕ, zero, suc, ◌+◌, ◌-◌, ◌<◌, ◌≤◌, min, Bool, cond, ltb, refl, add-one, arith}
+use Rattle.std.specs.List.{range_with_len, sum_by}
+use Rattle.std.proofs.lemmas.Bool.{cond_both, ltb-true, ltb-false}
+use Rattle.std.proofs.lemmas.List.{map-id}
+use Rattle.std.proofs.lemmas.List.FromFn.{sum_by-map-range_with_len_more}
 use Rattle.greens.specs.declared.lights.Green.{Green}
 use Rattle.greens.specs.Circle.{after}
 use Rattle.greens.specs.Greens.{on, count_to}
@@ -15,19 +17,15 @@ pub count_more : (n : ℕ) (test : ℕ → Bool) → count_to (n + 1) test ≡ c
 unfolding count_to
 count_more n test = rw add-one
 
--- the numbers from one up to another, kept where a test holds, are as many as it holds for
-counted_from : (test : ℕ → Bool) (n from to : ℕ) → from + n ≡ to → length (filter test (range_with_len from n)) + count_to from test ≡ count_to to test
-counted_from test zero from to is = let same : from ≡ to = omega arith in rw same (omega arith)
-counted_from test (suc n) from to is =
-    let rest = counted_from test n (from + 1) to (omega (arith, is)) in
-    let more = count_more from test in
-    ⊎_elim
-    (λ (holds : test from ≡ true). rw holds (let one : count_to (from + 1) test ≡ count_to from test + 1 = rw holds at more in omega (arith, rest, one)))
-    (λ (fails : test from ≡ false). rw fails (let none : count_to (from + 1) test ≡ count_to from test + 0 = rw fails at more in omega (arith, rest, none)))
-    (cases_Bool (test from))
-
-pub counted : (n : ℕ) (test : ℕ → Bool) → length (filter test (range_with_len 0 n)) ≡ count_to n test
-counted n test = omega (arith, counted_from test n 0 n (omega arith), count_none test)
+-- a test counted over the numbers below n
+pub counted : (n : ℕ) (test : ℕ → Bool) → sum_by (λ s. cond (test s) 1 0) (range_with_len 0 n) ≡ count_to n test
+unfolding count_to
+counted zero test = refl
+counted (suc n) test =
+    let more : sum_by (λ s. cond (test s) 1 0) (range_with_len 0 (suc n)) ≡ sum_by (λ s. cond (test s) 1 0) (range_with_len 0 n) + cond (test n) 1 0
+    = rw add-one at (simp map-id at (sum_by-map-range_with_len_more (λ s. cond (test s) 1 0) (λ x. x) 0 n n (omega arith)))
+    in
+    omega (arith, more, counted n test)
 
 pub count_within : (n : ℕ) (test : ℕ → Bool) → count_to n test ≤ n
 unfolding count_to

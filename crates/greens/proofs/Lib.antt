@@ -1,4 +1,4 @@
 pub mod Circle
 pub mod Counts
-pub mod Mapped
+pub mod Made
 pub mod Turns

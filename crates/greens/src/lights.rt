@@ -35,7 +35,7 @@ impl Green {
         ensures stated { self.from < cycle.seconds → self.long ≤ cycle.seconds → result ≡ self.long }
     {
         (0..cycle.seconds())
-            .filter(|&second| self.on(cycle, second))
-            .count() as u8
+            .map(|second| u8::from(self.on(cycle, second)))
+            .sum()
     }
 }

@@ -5,6 +5,7 @@ ghost use Rattle.greens.specs.Rounds.{later};
 
 use crate::lights::Green;
 use crate::seconds::Cycle;
+use std::array;
 
 // How many streams a junction can have.
 pub const MOST_STREAMS: usize = 12;
@@ -49,8 +50,9 @@ impl Plan {
     pub fn later(&self, cycle: Cycle, by: u8) -> Plan
         ensures { (k : ℕ) → k < 12 → green_of result.greens k ≡ later cycle.seconds by (green_of self.now.greens k) }
     {
+        // The array's `map` would take twice the time.
         Plan {
-            greens: self.greens.map(|green| green.later(cycle, by)),
+            greens: array::from_fn(|stream| self.green(stream).later(cycle, by)),
         }
     }
 }

@@ -1,6 +1,6 @@
 use Rattle.std.proofs.Common.{rules, ◌≡◌, true, false}
 use Rattle.placing.specs.Crowds.{member_of}
-use Rattle.crossing.proofs.Made.{made_of}
+use Rattle.greens.proofs.Made.{made_of}
 use Rattle.placing.proofs.shares.Group.margins.Goals as goal
 
 pub returns-clause-none : goal.returns-clause-none

@@ -1,6 +1,6 @@
 use Rattle.std.proofs.Common.{◌<◌, arith, rules}
 use Rattle.placing.specs.Crowds.{Span}
-use Rattle.crossing.proofs.Made.{made_of}
+use Rattle.greens.proofs.Made.{made_of}
 use Rattle.placing.proofs.spacing.Gaps.spans_from.Goals as goal
 
 pub returns : goal.returns
