@@ -84,13 +84,13 @@ table_taken n table is =
     record { whole = eqb-true _ _ (not-false _ counted.0); faultless = no_fault n table (mapped_none Table (faulty_place n table) counted.1) }
 
 -- what crosses in a table without fault crosses both ways, also where the table is copied
-pub faultless_both : (n : ℕ) (table copy : List ℕ) → TakenTable n table → ((i : ℕ) → get_or copy i 0 ≡ get_or table i 0) → both_ways n copy ≡ true
+pub faultless_both : (n : ℕ) (table copy : List ℕ) → ((a : ℕ) → a < n → (b : ℕ) → b < n → fault n table a b ≡ false) → ((i : ℕ) → get_or copy i 0 ≡ get_or table i 0) → both_ways n copy ≡ true
 unfolding both_ways
-faultless_both n table copy taken same =
+faultless_both n table copy faultless same =
     all_in n (λ a. all_to n (λ b. not (crossing n copy a b) || crossing n copy b a))
     (λ a ha. all_in n (λ b. not (crossing n copy a b) || crossing n copy b a)
     (λ b hb.
-    let sound : fault n table a b ≡ false = taken.faultless a ha b hb in
+    let sound : fault n table a b ≡ false = faultless a ha b hb in
     rw (same (a * n + b), same (b * n + a)) (grind (arith, nat_tests))))
 
 -- a room that is taken has two numbers for each stream

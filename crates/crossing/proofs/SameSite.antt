@@ -22,7 +22,7 @@ made n c streams table = record {
 module _ (n : ℕ) (pairs : List ℕ) (streams : List Stream) (paired : length pairs ≡ 2 * n) (few : n ≤ 12) (twelve : length streams ≡ 12)
     (each : (k : ℕ) → k < 12 → get_or streams k no_stream ≡ stream_in pairs k) where
   -- a stream is what its two numbers say, also past the last, where both are nothing
-  stream_same : (k : ℕ) → get_or streams k no_stream ≡ stream_in pairs k
+  pub stream_same : (k : ℕ) → get_or streams k no_stream ≡ stream_in pairs k
   stream_same k =
       ⊎_elim (λ (within : k < 12). each k within)
       (λ (past : 12 ≤ k).
@@ -31,12 +31,13 @@ module _ (n : ℕ) (pairs : List ℕ) (streams : List Stream) (paired : length p
       get_or_past streams k no_stream (omega arith) ∙ rw (first, second))
       (cases_lt k 12)
 
+module _ (n : ℕ) (pairs : List ℕ) (streams : List Stream) (same : (k : ℕ) → get_or streams k no_stream ≡ stream_in pairs k) where
   pub site_same : (seconds c : ℕ) (copy table : List ℕ) → seconds ≡ c → ((i : ℕ) → get_or copy i 0 ≡ get_or table i 0) → made n seconds streams copy ≡ site_in c n pairs table
   site_same seconds c copy table cycles entries = λ i. record {
     streams = n;
     cycle = cycles i;
-    least = λ k. (stream_same k i).least;
-    comes = λ k. (stream_same k i).comes;
+    least = λ k. (same k i).least;
+    comes = λ k. (same k i).comes;
     crosses = λ a b. ltb 0 (entries (a * n + b) i);
     clear = λ a b. entries (a * n + b) i - 1;
   }

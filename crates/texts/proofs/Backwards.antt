@@ -5,7 +5,7 @@ use Rattle.greens.specs.declared.lights.Green.{Green}
 use Rattle.greens.specs.Plans.{no_green}
 use Rattle.texts.specs.Words.{words}
 use Rattle.texts.specs.Answers.{span_words, green_words, stream_words, each_from, streams_words, title_words, answer_line}
-use Rattle.texts.specs.Back.{but_last, greens_in, after_title, answer_in, letters, is_word, are_words, title_is_word, shown_from, ReadBack}
+use Rattle.texts.specs.Back.{but_last, greens_in, after_title, answer_in, is_word, are_words, title_is_word, shown_from, ReadBack}
 use Rattle.texts.proofs.Spelled.{word_then, word_last, word_push, but_last_push, decimal_numeral, numeral_word, numeral_reads, not_never}
 
 -- a green that bytes hold

@@ -12,15 +12,15 @@ unfolding told_from
 told_end line some t ls none = rw none
 
 module _ (line : ℕ) (some : Bool) (t : Told) (l : List ℕ) (ls : List (List ℕ)) where
-  told_close : (name : List ℕ) → begin_name (line_in (words l)) ≡ Some name → some ≡ true → told_from line some t (l ∷ ls) ≡ closed line t ∷ told_from (line + 1) true (opened (Some name)) ls
+  pub told_close : (name : List ℕ) → begin_name (line_in (words l)) ≡ Some name → some ≡ true → told_from line some t (l ∷ ls) ≡ closed line t ∷ told_from (line + 1) true (opened (Some name)) ls
   unfolding told_from
   told_close name is counts = rw (is, counts)
 
-  told_begin : (name : List ℕ) → begin_name (line_in (words l)) ≡ Some name → some ≡ false → told_from line some t (l ∷ ls) ≡ told_from (line + 1) true (opened (Some name)) ls
+  pub told_begin : (name : List ℕ) → begin_name (line_in (words l)) ≡ Some name → some ≡ false → told_from line some t (l ∷ ls) ≡ told_from (line + 1) true (opened (Some name)) ls
   unfolding told_from
   told_begin name is counts = rw (is, counts)
 
-  told_more : begin_name (line_in (words l)) ≡ None → told_from line some t (l ∷ ls) ≡ told_from (line + 1) (some || says (line_in (words l))) (on_line line (line_in (words l)) t) ls
+  pub told_more : begin_name (line_in (words l)) ≡ None → told_from line some t (l ∷ ls) ≡ told_from (line + 1) (some || says (line_in (words l))) (on_line line (line_in (words l)) t) ls
   unfolding told_from
   told_more on = rw on
 

@@ -3,7 +3,7 @@ use Rattle.std.specs.Prelude.{Err}
 use Rattle.greens.specs.declared.seconds.Cycle.{Cycle}
 use Rattle.crossing.specs.Taken.{Read}
 use Rattle.crossing.proofs.Refused.{cycle_err, cycle_ok, cycle_taken, streams_taken, table_taken, faultless_both}
-use Rattle.crossing.proofs.SameSite.{site_same}
+use Rattle.crossing.proofs.SameSite.{stream_same, site_same}
 use Rattle.crossing.proofs.junctions.Junction.read.Goals as goal
 
 pub returns-in_err-seconds : goal.returns-in_err-seconds
@@ -38,7 +38,7 @@ invariant_of-result c =
     record {
       few = (streams.some, streams.few);
       sized = (c.streams_in.ensures.len, c.table_in.ensures.len);
-      both = faultless_both c.args.streams c.args.table.now c.table_in.result table c.table_in.ensures.each;
+      both = faultless_both c.args.streams c.args.table.now c.table_in.result table.faultless c.table_in.ensures.each;
     }
 
 pub returns : goal.returns
@@ -47,6 +47,7 @@ returns c =
     let cycle = cycle_ok (λ (cycle : Cycle). cycle.seconds) c.args.cycle c.new.result c.in_ok-seconds.seconds c.new.ensures (sym c.in_ok-seconds.ensures.value) c.in_ok-seconds.seconds.fits in (
       cycle_taken c.args.cycle c.args.streams c.args.pairs.now c.args.table.now cycle.1 cycle.2
           ∙ rw (sym c.in_ok-check_streams.ensures, sym c.in_ok-check_table.ensures),
-      site_same c.args.streams c.args.pairs.now c.streams_in.result streams.paired streams.few c.streams_in.ensures.len c.streams_in.ensures.each
+      site_same c.args.streams c.args.pairs.now c.streams_in.result
+          (stream_same c.args.streams c.args.pairs.now c.streams_in.result streams.paired streams.few c.streams_in.ensures.len c.streams_in.ensures.each)
           c.in_ok-seconds.seconds.seconds c.args.cycle c.table_in.result c.args.table.now cycle.0 c.table_in.ensures.each,
     )
